@@ -1,0 +1,3 @@
+-- The definitions, in the order in which to read them.
+pub mod Lists
+pub mod Check
