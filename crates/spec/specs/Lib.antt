@@ -1,3 +1,12 @@
 -- The definitions, in the order in which to read them.
 pub mod Lists
 pub mod Check
+pub mod Token
+pub mod Scan
+pub mod Trie
+pub mod Layout
+pub mod Valid
+pub mod Memory
+pub mod Match
+pub mod Answer
+pub mod Encode
