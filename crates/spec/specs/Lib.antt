@@ -1,6 +1,7 @@
 -- The definitions, in the order in which to read them.
 pub mod Lists
 pub mod Check
+pub mod Utf8
 pub mod Token
 pub mod Scan
 pub mod Trie
