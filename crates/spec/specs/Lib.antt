@@ -11,3 +11,4 @@ pub mod Memory
 pub mod Match
 pub mod Answer
 pub mod Encode
+pub mod Decode
