@@ -6,6 +6,7 @@ use Prim.Native.Nat.{ℕ, zero, suc, _+_, _-_}
 use lib.Dec.{leb, ltb}
 use lib.ListN.{length, take, drop, getD}
 use Rattle.spec.specs.Lists.{each}
+use Rattle.spec.specs.Utf8.{firstBad, lossy}
 use Rattle.spec.specs.Answer.{Answer, bare, whole}
 use Rattle.spec.specs.Memory.{Memory, tooShort}
 use Rattle.spec.specs.Encode.{Output, refused}
@@ -60,14 +61,42 @@ decodeOn m n ids = elim (tooShort m) [ true ↦ refused 1 | false ↦ decodeOutp
 
 -- ---- text
 
--- The text decoders are said over the meaning of UTF-8, given as the offset of the first ill-formed sequence and the lossy text.
-module _ (firstBad : List ℕ → Option ℕ) where
-  abbrev pub textAnswer : List ℕ → Option ℕ → Answer
-  textAnswer bs none = whole (length bs)
-  textAnswer bs (some k) = record { number = 29; count = length bs; place = k; value = 0 }
+abbrev pub textAnswer : List ℕ → Option ℕ → Answer
+textAnswer bs none = whole (length bs)
+textAnswer bs (some k) = record { number = 29; count = length bs; place = k; value = 0 }
 
-  -- "text decoding, after 27 and 28": 29 with the first bad offset. "On 29 the bytes stand decoded."
-  abbrev pub textOutput : Decoding → DecodeEnd → Output
-  textOutput d complete = record { answer = textAnswer (d .bytes) (firstBad (d .bytes)); cells = d .bytes }
-  textOutput d (absent index i) = decodeOutput d
-  textOutput d (full index) = decodeOutput d
+-- "text decoding, after 27 and 28": 29 with the first bad offset. "On 29 the bytes stand decoded."
+unfoldable pub textOutput : Decoding → DecodeEnd → Output
+unfolding firstBad
+textOutput d complete = record { answer = textAnswer (d .bytes) (firstBad (d .bytes)); cells = d .bytes }
+textOutput d (absent index i) = decodeOutput d
+textOutput d (full index) = decodeOutput d
+
+-- `decode_utf8`
+unfoldable pub decodeTextOn : Memory → ℕ → List ℕ → Output
+unfolding tooShort decoding textOutput
+decodeTextOn m n ids = elim (tooShort m) [ true ↦ refused 1 | false ↦ textOutput (decoding m n ids) (decoding m n ids .end) ]
+
+-- the first absent id, with its index
+unfoldable pub firstAbsent : Memory → ℕ → List ℕ → Option Answer
+unfolding lookup
+firstAbsent m index [] = none
+firstAbsent m index (i ∷ ids) = elim (lookup m i) [
+    [] ↦ some (record { number = 27; count = 0; place = index; value = i })
+  | b ∷ bs ↦ firstAbsent m (suc index) ids ]
+
+-- "Lossy checks every id for 27 first, then gives 28, index being the number of ids, if its text doesn't fit; both leave its
+-- output untouched."
+unfoldable pub lossyOutput : Memory → ℕ → List ℕ → Option Answer → Output
+unfolding lookup each lossy
+lossyOutput m n ids (some refusal) = record { answer = refusal; cells = [] }
+lossyOutput m n ids none =
+    let text = lossy (each (lookup m) ids) in
+    elim (leb (length text) n) [
+      true ↦ record { answer = whole (length text); cells = text }
+    | false ↦ record { answer = record { number = 28; count = 0; place = length ids; value = 0 }; cells = [] } ]
+
+-- `decode_lossy`
+unfoldable pub decodeLossyOn : Memory → ℕ → List ℕ → Output
+unfolding tooShort firstAbsent lossyOutput
+decodeLossyOn m n ids = elim (tooShort m) [ true ↦ refused 1 | false ↦ lossyOutput m n ids (firstAbsent m 0 ids) ]
