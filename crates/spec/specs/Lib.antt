@@ -2,6 +2,9 @@
 pub mod Lists
 pub mod Check
 pub mod Utf8
+pub mod Digits
+pub mod Line
+pub mod Literal
 pub mod Token
 pub mod Scan
 pub mod Trie

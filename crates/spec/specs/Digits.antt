@@ -1,0 +1,51 @@
+-- Numbers in decimal and in hexadecimal digits. A byte string is a list of numbers. The equations that a proof cites come after the
+-- definitions. Assumes nothing.
+use mathlib.Core.Path.{_≡_, refl}
+use mathlib.Core.Bool.{Bool, true, false, _&&_, cond}
+use mathlib.Core.Option.{Option, none, some, bind}
+use mathlib.Core.List.{List, [], _∷_}
+use Prim.Native.Nat.{ℕ, zero, suc, _+_, _*_, _-_, _<_, _≤_}
+use lib.Dec.{leb}
+use Rattle.spec.specs.Utf8.{Range, _to_, within}
+
+-- ── Decimal ──────────────────────────────────────────────────────────
+
+-- the value of a digit, a byte from `0` to `9`
+unfoldable pub digit : ℕ → Option ℕ
+digit b = cond (within (0x30 to 0x39) b) (some (b - 0x30)) none
+
+-- the number that the digits of v and behind them those of s spell; none if a byte of s is no digit
+unfoldable pub digitsAfter : ℕ → List ℕ → Option ℕ
+unfolding bind digit
+digitsAfter v [] = some v
+digitsAfter v (b ∷ s) = bind (digit b) (λ d. digitsAfter (v * 10 + d) s)
+
+unfoldable pub atMost : ℕ → ℕ → Option ℕ
+atMost limit v = cond (leb v limit) (some v) none
+
+-- The value of a number in digits. Refusals 6 and 11: "not all digits 0 to 9, or above" the limit; "Leading zeros are allowed".
+unfoldable pub digits : ℕ → List ℕ → Option ℕ
+unfolding bind atMost digitsAfter
+digits limit [] = none
+digits limit (b ∷ s) = bind (digitsAfter 0 (b ∷ s)) (atMost limit)
+
+-- ── Hexadecimal ──────────────────────────────────────────────────────
+
+-- the value of a hexadecimal digit: `0` to `9`, `a` to `f`, `A` to `F`
+unfoldable pub hexDigit : ℕ → Option ℕ
+hexDigit b =
+    cond (within (0x30 to 0x39) b) (some (b - 0x30))
+    (cond (within (0x61 to 0x66) b) (some (b - 0x61 + 10))
+    (cond (within (0x41 to 0x46) b) (some (b - 0x41 + 10))
+    none))
+
+-- the number that the digits of v and behind them the first n bytes of s spell; none if s is shorter or one of these is no digit
+unfoldable pub hexAfter : ℕ → ℕ → List ℕ → Option ℕ
+unfolding bind hexDigit
+hexAfter v zero s = some v
+hexAfter v (suc n) [] = none
+hexAfter v (suc n) (b ∷ s) = bind (hexDigit b) (λ d. hexAfter (v * 16 + d) n s)
+
+-- the value of a run of n hexadecimal digits at the start of s
+abbrev pub hexRun : ℕ → List ℕ → Option ℕ
+hexRun n s = hexAfter 0 n s

@@ -1,0 +1,152 @@
+-- Lines and their fields: document 01, "Lines". A text is a list of bytes. `nextLine` is one turn of a walk over a text, and
+-- `lines-next` ties the walk to `lines`. Assumes nothing.
+use mathlib.Core.Path.{_≡_, refl, sym, ap, _∙_}
+use mathlib.Core.Bool.{Bool, true, false, not, _&&_, _||_, cond}
+use mathlib.Core.Option.{Option, none, some, Option·map, orElse}
+use mathlib.Core.List.{List, [], _∷_, _++_}
+use Prim.Native.Nat.{ℕ, zero, suc, _+_, _-_}
+use lib.Dec.{eqb, leb, ltb}
+use lib.ListN.{length, take, drop, getD}
+use Rattle.spec.specs.Check.{Check, pass, refuse, given, need}
+use Rattle.spec.specs.Utf8.{blank}
+
+-- ── Lines ────────────────────────────────────────────────────────────
+
+abbrev pub lf : ℕ
+lf = 0x0A
+
+abbrev pub cr : ℕ
+cr = 0x0D
+
+abbrev pub space : ℕ
+space = 0x20
+
+-- a line without its last byte, if that is a CR
+unfoldable pub lessCR : List ℕ → List ℕ
+lessCR l = cond (eqb (getD l (length l - 1) 0) cr) (take (length l - 1) l) l
+
+-- "A line with LF loses up to two trailing CR, a last line without LF one."
+abbrev pub withLF : List ℕ → List ℕ
+withLF l = lessCR (lessCR l)
+
+abbrev pub withoutLF : List ℕ → List ℕ
+withoutLF l = lessCR l
+
+-- "a last LF opens no further line": nothing behind it is no line
+abbrev pub lastLine : List ℕ → List (List ℕ)
+lastLine [] = []
+lastLine (b ∷ l) = withoutLF (b ∷ l) ∷ []
+
+-- the lines of a text, of whose first line the bytes of l have been read
+unfoldable pub linesAfter : List ℕ → List ℕ → List (List ℕ)
+unfolding lessCR
+linesAfter l [] = lastLine l
+linesAfter l (b ∷ s) = cond (eqb b lf) (withLF l ∷ linesAfter [] s) (linesAfter (l ++ b ∷ []) s)
+
+-- The lines of a text: "A line ends at LF".
+unfoldable pub lines : List ℕ → List (List ℕ)
+unfolding linesAfter
+lines s = linesAfter [] s
+
+-- ── Fields ───────────────────────────────────────────────────────────
+
+-- where the first space stands, counted from 0
+unfoldable pub firstSpace : List ℕ → Option ℕ
+firstSpace [] = none
+firstSpace (b ∷ s) = cond (eqb b space) (some 0) (Option·map suc (firstSpace s))
+
+-- where the last space stands
+unfoldable pub lastSpace : List ℕ → Option ℕ
+unfolding orElse
+lastSpace [] = none
+lastSpace (b ∷ s) = orElse (Option·map suc (lastSpace s)) (cond (eqb b space) (some 0) none)
+
+-- The three parts of a line: "Between first and last space stands the literal, after the last the length."
+pub record Fields : Type 0 where
+  pub id : List ℕ
+  pub literal : List ℕ
+  pub length : List ℕ
+
+-- the parts of a line whose first and last space stand at these places
+abbrev pub parted : ℕ → ℕ → List ℕ → Fields
+parted first last line =
+    record { id = take first line; literal = take (last - suc first) (drop (suc first) line); length = drop (suc last) line }
+
+-- not: "first space leads, or last space is at most one place after it, or ends the line"
+abbrev pub placed : ℕ → ℕ → List ℕ → Bool
+placed first last line = ltb 0 first && (ltb (suc first) last && ltb (suc last) (length line))
+
+-- The fields of a line, or refusal 3 ("only White_Space characters, or empty"), 4 ("no space") or 5.
+unfoldable pub fields : List ℕ → Check Fields
+unfolding need given blank firstSpace lastSpace
+fields line =
+    need 3 (not (blank line))
+    (given 4 (firstSpace line) (λ first.
+    given 4 (lastSpace line) (λ last.
+    need 5 (placed first last line)
+    (pass (parted first last line)))))
+
+-- ── A walk over the lines ────────────────────────────────────────────
+
+-- how many bytes stand before the first LF: all, if there is none
+unfoldable pub beforeLF : List ℕ → ℕ
+beforeLF [] = 0
+beforeLF (b ∷ s) = cond (eqb b lf) 0 (suc (beforeLF s))
+
+-- The first line of a text: how many bytes it has, and after how many the next one starts.
+pub record First : Type 0 where
+  pub size : ℕ
+  pub next : ℕ
+
+-- the first line of a text whose first LF stands behind n bytes; a text without LF has n bytes
+abbrev pub firstLine : ℕ → List ℕ → First
+firstLine n s =
+    cond (ltb n (length s))
+    (record { size = length (withLF (take n s)); next = suc n })
+    (record { size = length (withoutLF s); next = n })
+
+-- One turn of a walk: the first line, none if there is no text.
+unfoldable pub nextLine : List ℕ → Option First
+unfolding beforeLF lessCR
+nextLine [] = none
+nextLine (b ∷ s) = some (firstLine (beforeLF (b ∷ s)) (b ∷ s))
+
+-- the line of a turn, and the lines of what follows it
+abbrev pub turn : Option First → List ℕ → List (List ℕ)
+turn none s = []
+turn (some f) s = take (f .size) s ∷ lines (drop (f .next) s)
+
+-- ── The table of CR and LF ───────────────────────────────────────────
+
+-- none, one, two, three CR before an LF
+crs-with-lf :
+    lines (0x61 ∷ lf ∷ 0x61 ∷ cr ∷ lf ∷ 0x61 ∷ cr ∷ cr ∷ lf ∷ 0x61 ∷ cr ∷ cr ∷ cr ∷ lf ∷ [])
+    ≡ (0x61 ∷ []) ∷ (0x61 ∷ []) ∷ (0x61 ∷ []) ∷ (0x61 ∷ cr ∷ []) ∷ []
+unfolding lines
+crs-with-lf = refl
+
+-- none, one, two CR at the end of a text without LF
+no-cr-at-end : lines (0x61 ∷ []) ≡ (0x61 ∷ []) ∷ []
+unfolding lines
+no-cr-at-end = refl
+
+one-cr-at-end : lines (0x61 ∷ cr ∷ []) ≡ (0x61 ∷ []) ∷ []
+unfolding lines
+one-cr-at-end = refl
+
+two-crs-at-end : lines (0x61 ∷ cr ∷ cr ∷ []) ≡ (0x61 ∷ cr ∷ []) ∷ []
+unfolding lines
+two-crs-at-end = refl
+
+-- no text, no line; an LF alone, one empty line; a CR alone too
+no-text : lines [] ≡ []
+unfolding lines
+no-text = refl
+
+lf-alone : lines (lf ∷ []) ≡ [] ∷ []
+unfolding lines
+lf-alone = refl
+
+cr-alone : lines (cr ∷ []) ≡ [] ∷ []
+unfolding lines
+cr-alone = refl

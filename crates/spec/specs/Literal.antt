@@ -1,0 +1,176 @@
+-- Literals: document 01, "Literals". A literal is read byte by byte; an escape is one step that says which bytes it stands for and
+-- how far it reaches. The set of escapes is a parameter of the reading: `escape` is the one that the base fixes. Assumes nothing.
+use mathlib.Core.Path.{_≡_, refl}
+use mathlib.Core.Bool.{Bool, true, false, not, _&&_, _||_, cond}
+use mathlib.Core.Option.{Option, none, some, bind}
+use mathlib.Core.List.{List, [], _∷_, _++_}
+use Prim.Native.Nat.{ℕ, zero, suc, _+_, _-_}
+use lib.Dec.{eqb, leb, ltb}
+use lib.ListN.{length, take, drop, getD}
+use Rattle.spec.specs.Utf8.{Range, _to_, within, utf8Of}
+use Rattle.spec.specs.Digits.{hexAfter, hexRun}
+
+-- ── Bytes with a meaning ─────────────────────────────────────────────
+
+-- `b`, `'`, `"` and `\`
+abbrev pub letterB : ℕ
+letterB = 0x62
+
+abbrev pub apostrophe : ℕ
+apostrophe = 0x27
+
+abbrev pub doubleQuote : ℕ
+doubleQuote = 0x22
+
+abbrev pub backslash : ℕ
+backslash = 0x5C
+
+-- ── One step inside the quotes ────────────────────────────────────────
+
+-- What stands at a place: the bytes it stands for, and how many bytes behind the first belong to it.
+pub record Piece : Type 0 where
+  pub bytes : List ℕ
+  pub more : ℕ
+
+-- A set of escapes: in a `b` literal or not, the piece that a backslash and the bytes behind it make; none if that is bad.
+abbrev pub Escapes : Type 0
+Escapes = Bool → List ℕ → Option Piece
+
+-- "`n t r \ ' "` as in Python; `0` is one zero byte in any company": each letter and its byte
+unfoldable pub letters : List (ℕ × ℕ)
+letters =
+    (0x6E, 0x0A) ∷
+    (0x74, 0x09) ∷
+    (0x72, 0x0D) ∷
+    (backslash, backslash) ∷
+    (apostrophe, apostrophe) ∷
+    (doubleQuote, doubleQuote) ∷
+    (0x30, 0x00) ∷
+    []
+
+-- what a table gives for a letter
+unfoldable pub lookUp : List (ℕ × ℕ) → ℕ → Option (List ℕ)
+lookUp [] c = none
+lookUp (p ∷ ps) c = cond (eqb c (p .0)) (some (p .1 ∷ [])) (lookUp ps c)
+
+-- "`x` and two hexadecimal digits, one byte in `b`, else that code point in UTF-8"
+unfoldable pub byteOrPoint : Bool → ℕ → Option (List ℕ)
+unfolding utf8Of
+byteOrPoint true v = some (v ∷ [])
+byteOrPoint false v = some (utf8Of v)
+
+-- "`u` and four, never in `b`, never a surrogate (D800 to DFFF)"
+unfoldable pub pointOnly : Bool → ℕ → Option (List ℕ)
+unfolding utf8Of
+pointOnly true v = none
+pointOnly false v = cond (within (0xD800 to 0xDFFF) v) none (some (utf8Of v))
+
+-- the escape of so many bytes behind the backslash
+abbrev pub escapeOf : ℕ → Option (List ℕ) → Option Piece
+escapeOf n none = none
+escapeOf n (some bs) = some (record { bytes = bs; more = n })
+
+-- The base's escapes: "The byte after a backslash decides", "Anything else is bad".
+unfoldable pub escape : Escapes
+unfolding bind hexAfter letters lookUp byteOrPoint pointOnly
+escape inB [] = none
+escape inB (c ∷ s) =
+    cond (eqb c 0x78) (escapeOf 3 (bind (hexRun 2 s) (byteOrPoint inB)))
+    (cond (eqb c 0x75) (escapeOf 5 (bind (hexRun 4 s) (pointOnly inB)))
+    (escapeOf 1 (lookUp letters c)))
+
+-- "Inside, that quote bare is bad; other bytes stand for themselves, but in `b` literals only ASCII."
+abbrev pub plain : Bool → ℕ → ℕ → Option Piece
+plain inB quote b = cond (eqb b quote || (inB && leb 0x80 b)) none (some (record { bytes = b ∷ []; more = 0 }))
+
+-- ── The whole literal ────────────────────────────────────────────────
+
+-- What a reader has when it stops: the bytes up to the end or to the first fault, and whether there was no fault.
+pub record Read : Type 0 where
+  pub bytes : List ℕ
+  pub good : Bool
+
+abbrev pub bad : Read
+bad = record { bytes = []; good = false }
+
+-- these bytes, and then what the rest gives
+abbrev pub put : List ℕ → Read → Read
+put bs r = record { bytes = bs ++ r .bytes; good = r .good }
+
+-- a piece, and then what stands behind it: rest leaves out so many bytes
+abbrev pub piece : Option Piece → (ℕ → Read) → Read
+piece none rest = bad
+piece (some p) rest = put (p .bytes) (rest (p .more))
+
+-- "`'` or `"`, closed by the same byte at the end; at least two bytes of quotes"
+abbrev pub closed : List ℕ → Bool
+closed s =
+    leb 2 (length s) &&
+    ((eqb (getD s 0 0) apostrophe || eqb (getD s 0 0) doubleQuote) && eqb (getD s (length s - 1) 0) (getD s 0 0))
+
+module _ (escapes : Escapes) where
+  -- one step at a byte and those behind it
+  abbrev pub pieceAt : Bool → ℕ → ℕ → List ℕ → Option Piece
+  pieceAt inB quote b s = cond (eqb b backslash) (escapes inB s) (plain inB quote b)
+
+  -- what stands between the quotes, the first k bytes left out
+  unfoldable pub inside : Bool → ℕ → List ℕ → ℕ → Read
+  inside inB quote [] k = record { bytes = []; good = true }
+  inside inB quote (b ∷ s) zero = piece (pieceAt inB quote b s) (λ k. inside inB quote s k)
+  inside inB quote (b ∷ s) (suc k) = inside inB quote s k
+
+  -- quotes and what they hold
+  unfoldable pub quoted : Bool → List ℕ → Read
+  unfolding inside
+  quoted inB s = cond (closed s) (inside inB (getD s 0 0) (take (length s - 2) (drop 1 s)) 0) bad
+
+  -- "Optional `b`", then the quotes
+  unfoldable pub readWith : List ℕ → Read
+  unfolding quoted
+  readWith [] = bad
+  readWith (b ∷ s) = cond (eqb b letterB) (quoted true s) (quoted false (b ∷ s))
+
+abbrev pub whole : Read → Option (List ℕ)
+whole r = cond (r .good) (some (r .bytes)) none
+
+-- What the base reads of a literal.
+unfoldable pub read : List ℕ → Read
+unfolding readWith escape
+read s = readWith escape s
+
+-- The bytes of a literal; none if it is bad (refusal 12).
+unfoldable pub literal : List ℕ → Option (List ℕ)
+unfolding read
+literal s = whole (read s)
+
+-- ── Document 01's examples ───────────────────────────────────────────
+
+-- `'\x80'` is C2 80
+x80-in-string : literal (0x27 ∷ 0x5C ∷ 0x78 ∷ 0x38 ∷ 0x30 ∷ 0x27 ∷ []) ≡ some (0xC2 ∷ 0x80 ∷ [])
+unfolding literal
+x80-in-string = refl
+
+-- `b'\x80'` is 80
+x80-in-bytes : literal (0x62 ∷ 0x27 ∷ 0x5C ∷ 0x78 ∷ 0x38 ∷ 0x30 ∷ 0x27 ∷ []) ≡ some (0x80 ∷ [])
+unfolding literal
+x80-in-bytes = refl
+
+-- `'\01'` is 00 31
+zero-then-one : literal (0x27 ∷ 0x5C ∷ 0x30 ∷ 0x31 ∷ 0x27 ∷ []) ≡ some (0x00 ∷ 0x31 ∷ [])
+unfolding literal
+zero-then-one = refl
+
+-- `'\ud800'` is bad
+surrogate-bad : literal (0x27 ∷ 0x5C ∷ 0x75 ∷ 0x64 ∷ 0x38 ∷ 0x30 ∷ 0x30 ∷ 0x27 ∷ []) ≡ none
+unfolding literal
+surrogate-bad = refl
+
+-- `b'\u0041'` is bad
+u-in-bytes-bad : literal (0x62 ∷ 0x27 ∷ 0x5C ∷ 0x75 ∷ 0x30 ∷ 0x30 ∷ 0x34 ∷ 0x31 ∷ 0x27 ∷ []) ≡ none
+unfolding literal
+u-in-bytes-bad = refl
+
+-- `'a\'` is bad
+open-escape-bad : literal (0x27 ∷ 0x61 ∷ 0x5C ∷ 0x27 ∷ []) ≡ none
+unfolding literal
+open-escape-bad = refl
