@@ -2,12 +2,15 @@
 -- Document 01, "Text": "UTF-8 by RFC 3629; lossy text puts U+FFFD for each maximal ill-formed part as in Unicode chapter 3."
 -- One step says what stands at the start of a string; a string is cut into parts by it, and everything else folds over the parts.
 -- The equations that a proof cites come after the definitions, and a table of examples last. Assumes nothing.
-use mathlib.Core.Path.{_≡_, refl, ap, _∙_, sym}
+use mathlib.Core.Path.{_≡_, refl, ap, _∙_, sym, subst}
 use mathlib.Core.Bool.{Bool, true, false, _&&_, cond}
 use mathlib.Core.Option.{Option, none, some}
 use mathlib.Core.List.{List, [], _∷_, _++_}
-use Prim.Native.Nat.{ℕ, zero, suc, pred, _+_, _*_, _/_, _%_}
-use lib.Dec.{leb, ltb}
+use Prim.Native.Nat.{ℕ, zero, suc, pred, _+_, _*_, _/_, _%_, _≤_, _<_}
+use native.Mathlib.Nat.{not-suc-le-zero}
+use native.Mathlib.Omega.{arith}
+use lib.Dec.{leb}
+use borrow.Author.Tests.{eq-eqb}
 use lib.ListN.{length, take, drop}
 use Rattle.spec.specs.Lists.{any, all, each, byteIn}
 
@@ -108,14 +111,15 @@ pub record Part : Type 0 where
   pub step : Step
   pub bytes : List ℕ
 
-abbrev pub partOf : List ℕ → Part
-partOf s = record { step = stepOf s; bytes = take (size (stepOf s)) s }
+-- the part that a step takes from a string
+abbrev pub partOf : Step → List ℕ → Part
+partOf t s = record { step = t; bytes = take (size t) s }
 
 -- the parts of a string whose first k bytes belong to a part before
 unfoldable pub partsAt : ℕ → List ℕ → List Part
 unfolding stepOf
 partsAt k [] = []
-partsAt zero (b ∷ s) = partOf (b ∷ s) ∷ partsAt (pred (size (stepOf (b ∷ s)))) s
+partsAt zero (b ∷ s) = partOf (stepOf (b ∷ s)) (b ∷ s) ∷ partsAt (pred (size (stepOf (b ∷ s)))) s
 partsAt (suc k) (b ∷ s) = partsAt k s
 
 -- A string cut from its start into characters and maximal ill-formed parts. At most the last is cut off.
@@ -141,10 +145,14 @@ abbrev pub firstOf : List ℕ → Option ℕ
 firstOf [] = none
 firstOf (i ∷ is) = some i
 
--- The first bad offset (29), none if the string is UTF-8.
-unfoldable pub firstBad : List ℕ → Option ℕ
+-- the first bad offset of a string that stands at i
+unfoldable pub firstBadFrom : ℕ → List ℕ → Option ℕ
 unfolding badFrom partsAt
-firstBad s = firstOf (badFrom 0 (parts s))
+firstBadFrom i s = firstOf (badFrom i (parts s))
+
+-- The first bad offset (29), none if the string is UTF-8.
+abbrev pub firstBad : List ℕ → Option ℕ
+firstBad s = firstBadFrom 0 s
 
 -- "Number 2's offset may be any offset where an ill-formed sequence starts."
 unfoldable pub illFormedAt : List ℕ → ℕ → Bool
@@ -218,6 +226,146 @@ whitePart p = isWhole p && whiteSpace (pointOf (p .bytes))
 unfoldable pub blank : List ℕ → Bool
 unfolding all whitePart partsAt
 blank s = all whitePart (parts s)
+
+-- ── Equations ────────────────────────────────────────────────────────
+
+follow-pos : (n : ℕ) (rs : List Range) (s : List ℕ) → 0 < n → 0 < size (follow n rs s)
+unfolding follow
+follow-pos n [] s h = h
+follow-pos n (r ∷ rs) [] h = h
+follow-pos n (r ∷ rs) (b ∷ s) h = go (within r b) (follow-pos (suc n) rs s (omega arith))
+  where
+    go : (c : Bool) → 0 < size (follow (suc n) rs s) → 0 < size (cond c (follow (suc n) rs s) (bad n))
+    go true ih = ih
+    go false ih = h
+
+follow-within : (n : ℕ) (rs : List Range) (s : List ℕ) → size (follow n rs s) ≤ n + length s
+unfolding follow
+follow-within n [] s = omega arith
+follow-within n (r ∷ rs) [] = omega arith
+follow-within n (r ∷ rs) (b ∷ s) = go (within r b) (follow-within (suc n) rs s)
+  where
+    go : (c : Bool) → size (follow (suc n) rs s) ≤ suc n + length s → size (cond c (follow (suc n) rs s) (bad n)) ≤ n + suc (length s)
+    go true ih = omega arith
+    go false ih = omega arith
+
+-- A step takes at least one byte, and no more than there are.
+pub step-pos : (b : ℕ) (s : List ℕ) → 0 < size (stepOf (b ∷ s))
+unfolding stepOf
+step-pos b s = go (after b)
+  where
+    go : (o : Option (List Range)) → 0 < size (followed o s)
+    go none = omega arith
+    go (some rs) = follow-pos 1 rs s (omega arith)
+
+pub step-within : (s : List ℕ) → size (stepOf s) ≤ length s
+unfolding stepOf
+step-within [] = omega arith
+step-within (b ∷ s) = go (after b)
+  where
+    go : (o : Option (List Range)) → size (followed o s) ≤ suc (length s)
+    go none = omega arith
+    go (some rs) = omega (arith, follow-within 1 rs s)
+
+-- Bytes that belong to a part before are left out.
+pub partsAt-drop : (k : ℕ) (s : List ℕ) → partsAt k s ≡ parts (drop k s)
+unfolding partsAt
+partsAt-drop zero s = refl
+partsAt-drop (suc k) [] = refl
+partsAt-drop (suc k) (b ∷ s) = partsAt-drop k s
+
+past-part : (n b : ℕ) (s : List ℕ) → 0 < n → partsAt (pred n) s ≡ parts (drop n (b ∷ s))
+past-part zero b s h = absurd (not-suc-le-zero h)
+past-part (suc n) b s h = partsAt-drop n s
+
+pub parts-nil : parts [] ≡ []
+unfolding partsAt
+parts-nil = refl
+
+-- The parts of a string that is not empty: the one that its step takes, then those of what is left.
+pub parts-cons : (b : ℕ) (s : List ℕ) (t : Step) → stepOf (b ∷ s) ≡ t →
+    parts (b ∷ s) ≡ partOf t (b ∷ s) ∷ parts (drop (size t) (b ∷ s))
+unfolding partsAt
+parts-cons b s t e =
+    subst (λ (u : Step). parts (b ∷ s) ≡ partOf u (b ∷ s) ∷ parts (drop (size u) (b ∷ s))) e
+    (ap (λ ps. partOf (stepOf (b ∷ s)) (b ∷ s) ∷ ps) (past-part (size (stepOf (b ∷ s))) b s (step-pos b s)))
+
+pub first-bad-nil : (i : ℕ) → firstBadFrom i [] ≡ none
+unfolding firstBadFrom
+first-bad-nil i = refl
+
+pub first-bad-char : (i b n : ℕ) (s : List ℕ) → stepOf (b ∷ s) ≡ char n →
+    firstBadFrom i (b ∷ s) ≡ firstBadFrom (i + n) (drop n (b ∷ s))
+unfolding firstBadFrom
+first-bad-char i b n s e = ap (λ ps. firstOf (badFrom i ps)) (parts-cons b s (char n) e)
+
+pub first-bad-bad : (i b n : ℕ) (s : List ℕ) → stepOf (b ∷ s) ≡ bad n → firstBadFrom i (b ∷ s) ≡ some i
+unfolding firstBadFrom
+first-bad-bad i b n s e = ap (λ ps. firstOf (badFrom i ps)) (parts-cons b s (bad n) e)
+
+pub first-bad-cut : (i b n : ℕ) (s : List ℕ) → stepOf (b ∷ s) ≡ cut n → firstBadFrom i (b ∷ s) ≡ some i
+unfolding firstBadFrom
+first-bad-cut i b n s e = ap (λ ps. firstOf (badFrom i ps)) (parts-cons b s (cut n) e)
+
+pub lossy-nil : lossy [] ≡ []
+unfolding lossy
+lossy-nil = refl
+
+pub lossy-char : (b n : ℕ) (s : List ℕ) → stepOf (b ∷ s) ≡ char n →
+    lossy (b ∷ s) ≡ take n (b ∷ s) ++ lossy (drop n (b ∷ s))
+unfolding lossy
+lossy-char b n s e = ap (each shown) (parts-cons b s (char n) e)
+
+pub lossy-bad : (b n : ℕ) (s : List ℕ) → stepOf (b ∷ s) ≡ bad n → lossy (b ∷ s) ≡ replacement ++ lossy (drop n (b ∷ s))
+unfolding lossy
+lossy-bad b n s e = ap (each shown) (parts-cons b s (bad n) e)
+
+pub lossy-cut : (b n : ℕ) (s : List ℕ) → stepOf (b ∷ s) ≡ cut n → lossy (b ∷ s) ≡ replacement ++ lossy (drop n (b ∷ s))
+unfolding lossy
+lossy-cut b n s e = ap (each shown) (parts-cons b s (cut n) e)
+
+pub blank-nil : blank [] ≡ true
+unfolding blank
+blank-nil = refl
+
+pub blank-char : (b n : ℕ) (s : List ℕ) → stepOf (b ∷ s) ≡ char n →
+    blank (b ∷ s) ≡ whiteSpace (pointOf (take n (b ∷ s))) && blank (drop n (b ∷ s))
+unfolding blank
+blank-char b n s e = ap (all whitePart) (parts-cons b s (char n) e)
+
+pub blank-bad : (b n : ℕ) (s : List ℕ) → stepOf (b ∷ s) ≡ bad n → blank (b ∷ s) ≡ false
+unfolding blank
+blank-bad b n s e = ap (all whitePart) (parts-cons b s (bad n) e)
+
+pub blank-cut : (b n : ℕ) (s : List ℕ) → stepOf (b ∷ s) ≡ cut n → blank (b ∷ s) ≡ false
+unfolding blank
+blank-cut b n s e = ap (all whitePart) (parts-cons b s (cut n) e)
+
+abbrev pub isNone : Option ℕ → Bool
+isNone none = true
+isNone (some i) = false
+
+-- A string is UTF-8 exactly if it has no first bad offset.
+pub well-formed-first : (s : List ℕ) → wellFormed s ≡ isNone (firstBad s)
+unfolding wellFormed firstBadFrom
+well-formed-first s = go 0 (parts s)
+  where
+    choose : (c : Bool) (i : ℕ) (is : List ℕ) (w : Bool) → w ≡ isNone (firstOf is) → c && w ≡ isNone (firstOf (cond c is (i ∷ is)))
+    choose true i is w e = e
+    choose false i is w e = refl
+
+    go : (i : ℕ) (ps : List Part) → all isWhole ps ≡ isNone (firstOf (badFrom i ps))
+    go i [] = refl
+    go i (p ∷ ps) = choose (isWhole p) i (badFrom (i + size (p .step)) ps) (all isWhole ps) (go (i + size (p .step)) ps)
+
+-- An ill-formed sequence starts at the first bad offset.
+pub first-bad-ill : (s : List ℕ) (i : ℕ) → firstBad s ≡ some i → illFormedAt s i ≡ true
+unfolding illFormedAt firstBadFrom
+first-bad-ill s i e = go (badFrom 0 (parts s)) e
+  where
+    go : (is : List ℕ) → firstOf is ≡ some i → byteIn is i ≡ true
+    go [] e = let z : _≡_ {A = ℕ} 0 1 = cc in absurd (omega arith)
+    go (j ∷ is) e = let h : i ≡ j = cc in rw (eq-eqb i j h)
 
 -- ── Examples ─────────────────────────────────────────────────────────
 
