@@ -53,20 +53,17 @@ follow table (b ∷ s) k =
     let w = getD table (bitXor (k .base) b) 0 in
     let next = onto k w (suc (k .used)) in
     elim (goes w b) [
-      | false ↦ k
-      | true ↦ elim (eqb (baseIn w) 0) [ true ↦ next | false ↦ follow table s next ]
-    ]
+      false ↦ k
+    | true ↦ elim (eqb (baseIn w) 0) [ true ↦ next | false ↦ follow table s next ] ]
 
 -- from the root word w: an id with base 0 ends the walk at once; with id 0 and base 0 it goes on through block 0
 unfoldable pub enter : List ℕ → ℕ → List ℕ → Walk
 unfolding follow onto idIn baseIn
 enter table w s = elim (eqb w 0) [
-  | true ↦ noWalk
+    true ↦ noWalk
   | false ↦ elim (not (eqb (idIn w) 0) && eqb (baseIn w) 0) [
-    | true ↦ onto noWalk w 2
-    | false ↦ follow table s (onto noWalk w 2)
-  ]
-]
+        true ↦ onto noWalk w 2
+      | false ↦ follow table s (onto noWalk w 2) ] ]
 
 -- the walk from the first byte of s, over at most 255 bytes
 unfoldable pub walkOn : Memory → List ℕ → Walk

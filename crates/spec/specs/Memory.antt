@@ -76,8 +76,7 @@ memoryOf ts m = record {
   offsets = over (offsetList ts) (m .offsets);
   blob = padded (blobBytes ts) (length (m .blob));
   roots = over (rootList ts) (m .roots);
-  table = padded (tableList ts) (length (m .table));
-}
+  table = padded (tableList ts) (length (m .table)) }
 
 -- "After 3 to 21 the vocabulary memory is emptied: `single` all −1, the rest 0."
 unfoldable pub emptied : Memory → Memory
@@ -86,8 +85,7 @@ emptied m = record {
   offsets = over (replicate 65537 0) (m .offsets);
   blob = replicate (length (m .blob)) 0;
   roots = over (replicate 65536 0) (m .roots);
-  table = replicate (length (m .table)) 0;
-}
+  table = replicate (length (m .table)) 0 }
 
 -- Memory that an accepted load of the tokens left: "loaded memory". Its cells past the fixed lengths are anything.
 pub record Loaded (m : Memory) (ts : List Token) : Type 0 where
