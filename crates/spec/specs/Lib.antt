@@ -15,3 +15,5 @@ pub mod Match
 pub mod Answer
 pub mod Encode
 pub mod Decode
+pub mod Stream
+pub mod Plain
