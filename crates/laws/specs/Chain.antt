@@ -1,0 +1,125 @@
+-- A node's children as a chain through an array: first child, then next sibling. What a new child changes. Assumes nothing.
+use mathlib.Core.Path.{_≡_, refl, sym, ap, ap₂, _∙_, subst}
+use mathlib.Core.Logic.{_⊎_, inl, inr}
+use mathlib.Core.Bool.{Bool, true, false, cond}
+use mathlib.Core.List.{List, [], _∷_, _++_, map, append-nil, List·Memᴰ, List·Memᴰ·head, List·Memᴰ·tail, Memᴰ·append-right, Memᴰ·cast, Memᴰ·of-map, append-cancel-left, head-eq-of-cons-eq}
+use Prim.Native.Nat.{ℕ, suc, _≤_, _<_}
+use native.Mathlib.Omega.{arith}
+use lib.Dec.{eqb}
+use lib.ListN.{length, getD, set}
+use lib.Seq.{getD-set-same, getD-set-other}
+use borrow.Author.Tests.{eqb-true, eq-eqb}
+use Rattle.spec.specs.Trie.{labels}
+use Rattle.laws.specs.Tests.{either, no-true}
+use Rattle.laws.specs.Nodes.{label-node}
+use Rattle.laws.specs.Numbered.{place-of, number, at-place, place-stays, place-new, Fresh, labels-fresh}
+use Rattle.laws.specs.Grow.{labels-snoc, label-self, snoc-inj, label-other}
+
+-- the numbers of p's children, in order
+unfoldable pub kids : List (List ℕ) → List ℕ → List ℕ
+unfolding labels number
+kids ps p = map (λ l. number ps (p ++ (l ∷ []))) (labels ps p)
+
+pub number-inj : (ps : List (List ℕ)) {p q : List ℕ} → List·Memᴰ p ps → List·Memᴰ q ps → number ps p ≡ number ps q → p ≡ q
+unfolding number
+number-inj ps {p} {q} m n e = let k : place-of ps p ≡ place-of ps q = omega arith in sym (at-place m) ∙ ap (λ (i : ℕ). getD ps i []) k ∙ at-place n
+
+map-append : {A B : Type 0} (f : A → B) (s t : List A) → map f (s ++ t) ≡ map f s ++ map f t
+map-append f [] t = refl
+map-append f (x ∷ s) t = ap (λ (l : List _). f x ∷ l) (map-append f s t)
+
+map-same : {A B : Type 0} (f g : A → B) (l : List A) → ((x : A) → List·Memᴰ x l → f x ≡ g x) → map f l ≡ map g l
+map-same f g [] h = refl
+map-same {A} {B} f g (x ∷ l) h = ap₂ (λ (y : B) (m : List B). y ∷ m) (h x (List·Memᴰ·head refl)) (map-same f g l (λ y m. h y (List·Memᴰ·tail m)))
+
+module _ (ps : List (List ℕ)) (q : List ℕ) (b : ℕ) (new : List·Memᴰ (q ++ (b ∷ [])) ps → ⊥) where
+  stays : (p : List ℕ) → map (λ l. number (ps ++ ((q ++ (b ∷ [])) ∷ [])) (p ++ (l ∷ []))) (labels ps p) ≡ kids ps p
+  unfolding kids
+  stays p = map-same _ _ (labels ps p) (λ l m. ap suc (place-stays ((q ++ (b ∷ [])) ∷ []) (label-node ps p l m)))
+
+  pub kids-self : kids (ps ++ ((q ++ (b ∷ [])) ∷ [])) q ≡ kids ps q ++ (suc (length ps) ∷ [])
+  unfolding kids
+  kids-self =
+      ap (map (λ l. number (ps ++ ((q ++ (b ∷ [])) ∷ [])) (q ++ (l ∷ [])))) (labels-snoc ps (q ++ (b ∷ [])) q ∙ ap (λ (l : List ℕ). labels ps q ++ l) (label-self q b))
+      ∙ map-append _ (labels ps q) (b ∷ [])
+      ∙ ap₂ (λ (l : List ℕ) (n : ℕ). l ++ (suc n ∷ [])) (stays q) (place-new ps (q ++ (b ∷ [])) new)
+
+  pub kids-other : (p : List ℕ) → (p ≡ q → ⊥) → kids (ps ++ ((q ++ (b ∷ [])) ∷ [])) p ≡ kids ps p
+  unfolding kids
+  kids-other p h =
+      ap (map (λ l. number (ps ++ ((q ++ (b ∷ [])) ∷ [])) (p ++ (l ∷ [])))) (labels-snoc ps (q ++ (b ∷ [])) p ∙ ap (λ (l : List ℕ). labels ps p ++ l) (label-other p q b h) ∙ append-nil (labels ps p))
+      ∙ stays p
+
+-- a child has one parent
+pub one-parent : (ps : List (List ℕ)) (p q : List ℕ) (c : ℕ) → List·Memᴰ c (kids ps p) → List·Memᴰ c (kids ps q) → p ≡ q
+unfolding kids
+one-parent ps p q c m n =
+    let a = Memᴰ·of-map (λ (l : ℕ). number ps (p ++ (l ∷ []))) (labels ps p) m in
+    let b = Memᴰ·of-map (λ (l : ℕ). number ps (q ++ (l ∷ []))) (labels ps q) n in
+    snoc-inj p q (a .0) (b .0) (number-inj ps (label-node ps p (a .0) (a .1)) (label-node ps q (b .0) (b .1)) (a .2 ∙ sym (b .2)))
+
+fresh-map : (f : ℕ → ℕ) (l : List ℕ) → Fresh l → ((x y : ℕ) → List·Memᴰ x l → List·Memᴰ y l → f x ≡ f y → x ≡ y) → Fresh (map f l)
+fresh-map f [] h i = tt
+fresh-map f (x ∷ l) h i = (
+  (λ m. let r = Memᴰ·of-map f l m in h .0 (Memᴰ·cast (i x (r .0) (List·Memᴰ·head refl) (List·Memᴰ·tail (r .1)) (sym (r .2))) (r .1))),
+  fresh-map f l (h .1) (λ a b m n e. i a b (List·Memᴰ·tail m) (List·Memᴰ·tail n) e),
+)
+
+last-inj : (p : List ℕ) (a b : ℕ) → p ++ (a ∷ []) ≡ p ++ (b ∷ []) → a ≡ b
+last-inj p a b e = head-eq-of-cons-eq (append-cancel-left p (a ∷ []) (b ∷ []) e)
+
+pub kids-fresh : (ps : List (List ℕ)) (p : List ℕ) → Fresh ps → Fresh (kids ps p)
+unfolding kids
+kids-fresh ps p f = fresh-map _ (labels ps p) (labels-fresh ps p f) (λ x y m n e. last-inj p x y (number-inj ps (label-node ps p x m) (label-node ps p y n) e))
+
+-- ---- chains
+
+abbrev pub Chain : List ℕ → ℕ → List ℕ → Type 0
+Chain nx h [] = h ≡ 0
+Chain nx h (c ∷ cs) = (h ≡ c) × (1 ≤ c) × Chain nx (getD nx c 0) cs
+
+-- a store at a node that is not in the chain
+pub chain-frame : (nx : List ℕ) (t v : ℕ) (l : List ℕ) (h : ℕ) → (List·Memᴰ t l → ⊥) → Chain nx h l → Chain (set nx t v) h l
+chain-frame nx t v [] h n k = k
+chain-frame nx t v (c ∷ cs) h n k = (
+  k .0,
+  k .1,
+  subst (λ (z : ℕ). Chain (set nx t v) z cs) (sym (getD-set-other nx t c v 0 (λ e. n (List·Memᴰ·head (sym e)))))
+      (chain-frame nx t v cs (getD nx c 0) (λ m. n (List·Memᴰ·tail m)) (k .2)),
+)
+
+-- the first child
+pub chain-first : (nx : List ℕ) (c : ℕ) → 1 ≤ c → getD nx c 0 ≡ 0 → Chain nx c (c ∷ [])
+chain-first nx c h z = (refl, h, z)
+
+-- one more at the end, by a store at the last
+pub chain-more : (nx : List ℕ) (t c : ℕ) (m : List ℕ) (h : ℕ) → t < length nx → 1 ≤ c → (c ≡ t → ⊥) → getD nx c 0 ≡ 0 → Fresh (m ++ (t ∷ []))
+    → Chain nx h (m ++ (t ∷ [])) → Chain (set nx t c) h ((m ++ (t ∷ [])) ++ (c ∷ []))
+chain-more nx t c [] h ht hc ne z f k = (k .0, k .1, (getD-set-same nx t c 0 ht, hc, getD-set-other nx t c c 0 ne ∙ z))
+chain-more nx t c (x ∷ m) h ht hc ne z f k = (
+  k .0,
+  k .1,
+  subst (λ (y : ℕ). Chain (set nx t c) y ((m ++ (t ∷ [])) ++ (c ∷ []))) (sym (getD-set-other nx t x c 0 (λ e. f .0 (Memᴰ·append-right m (List·Memᴰ·head e)))))
+      (chain-more nx t c m (getD nx x 0) ht hc ne z (f .1) (k .2)),
+)
+
+-- the walk along a chain for a label: what a loop has to show at each turn
+unfoldable pub seek : (ℕ → ℕ) → ℕ → List ℕ → ℕ
+seek lab b [] = 0
+seek lab b (c ∷ cs) = let r = seek lab b cs in cond (eqb (lab c) b) c r
+
+pub seek-hit : (lab : ℕ → ℕ) (b : ℕ) {c : ℕ} {l : List ℕ} → List·Memᴰ c l → lab c ≡ b → ((x y : ℕ) → List·Memᴰ x l → List·Memᴰ y l → lab x ≡ lab y → x ≡ y) → seek lab b l ≡ c
+unfolding seek
+seek-hit lab b {c} (List·Memᴰ·head {x = y} {xs = l} e) h i = ap (λ (d : Bool). cond d y (seek lab b l)) (eq-eqb (lab y) b (ap lab (sym e) ∙ h)) ∙ sym e
+seek-hit lab b {c} (List·Memᴰ·tail {x = y} {xs = l} m) h i = go (either (eqb (lab y) b)) (seek-hit lab b m h (λ u v p q. i u v (List·Memᴰ·tail p) (List·Memᴰ·tail q)))
+  where
+    go : (eqb (lab y) b ≡ true) ⊎ (eqb (lab y) b ≡ false) → seek lab b l ≡ c → cond (eqb (lab y) b) y (seek lab b l) ≡ c
+    go (inl e) r = ap (λ (d : Bool). cond d y (seek lab b l)) e ∙ i y c (List·Memᴰ·head refl) (List·Memᴰ·tail m) (eqb-true (lab y) b e ∙ sym h)
+    go (inr e) r = ap (λ (d : Bool). cond d y (seek lab b l)) e ∙ r
+
+pub seek-miss : (lab : ℕ → ℕ) (b : ℕ) (l : List ℕ) → ((c : ℕ) → List·Memᴰ c l → lab c ≡ b → ⊥) → seek lab b l ≡ 0
+unfolding seek
+seek-miss lab b [] h = refl
+seek-miss lab b (c ∷ l) h =
+    ap (λ (d : Bool). cond d c (seek lab b l)) (no-true (eqb (lab c) b) (λ e. h c (List·Memᴰ·head refl) (eqb-true (lab c) b e)))
+    ∙ seek-miss lab b l (λ x m. h x (List·Memᴰ·tail m))

@@ -1,0 +1,158 @@
+-- What the tests of Lists say of membership. Proofs use untruncated membership, `List·Memᴰ`. Assumes nothing.
+use mathlib.Core.Path.{_≡_, refl, sym, ap, ap₂, _∙_, subst}
+use mathlib.Core.Logic.{_⊎_, inl, inr}
+use mathlib.Core.Bool.{Bool, true, false, _&&_, _||_, cond, true≢false, false≢true, or-assoc}
+use mathlib.Core.List.{List, [], _∷_, _++_, List·Memᴰ, List·Memᴰ·head, List·Memᴰ·tail, List·Memᴰ·not-nil, List·Memᴰ·cases-cons, List·Memᴰ·append-cases, Memᴰ·append-left, Memᴰ·append-right, Memᴰ·cast}
+use Prim.Native.Nat.{ℕ, _≤_}
+use native.Mathlib.Omega.{arith}
+use lib.Dec.{eqb}
+use lib.ListN.{length}
+use borrow.Author.Tests.{eqb-true, eq-eqb}
+use Rattle.spec.specs.Lists.{any, keep, each, same, has, byteIn}
+
+-- ---- Booleans
+
+pub clash : {b : Bool} → b ≡ true → b ≡ false → ⊥
+clash p q = true≢false (sym p ∙ q)
+
+pub either : (b : Bool) → (b ≡ true) ⊎ (b ≡ false)
+either true = inl refl
+either false = inr refl
+
+pub or-cases : (a b : Bool) → (a || b) ≡ true → (a ≡ true) ⊎ (b ≡ true)
+or-cases true b e = inl refl
+or-cases false b e = inr e
+
+pub or-l : (a b : Bool) → a ≡ true → (a || b) ≡ true
+or-l true b e = refl
+or-l false b e = absurd (false≢true e)
+
+pub or-r : (a b : Bool) → b ≡ true → (a || b) ≡ true
+or-r true b e = refl
+or-r false b e = e
+
+pub and-l : (a b : Bool) → (a && b) ≡ true → a ≡ true
+and-l true b e = refl
+and-l false b e = absurd (false≢true e)
+
+pub and-r : (a b : Bool) → (a && b) ≡ true → b ≡ true
+and-r true b e = e
+and-r false b e = absurd (false≢true e)
+
+pub no-true : (b : Bool) → (b ≡ true → ⊥) → b ≡ false
+no-true true h = absurd (h refl)
+no-true false h = refl
+
+pub iff-eq : (a b : Bool) → (a ≡ true → b ≡ true) → (b ≡ true → a ≡ true) → a ≡ b
+iff-eq true b f g = sym (f refl)
+iff-eq false true f g = g refl
+iff-eq false false f g = refl
+
+-- ---- any
+
+module _ {A : Type 0} (f : A → Bool) where
+  pub any-find : (l : List A) → any f l ≡ true → (x : A) × List·Memᴰ x l × (f x ≡ true)
+  unfolding any
+  any-find [] e = absurd (false≢true e)
+  any-find (y ∷ l) e = go (or-cases (f y) (any f l) e) (any-find l)
+    where
+      go : (f y ≡ true) ⊎ (any f l ≡ true) → (any f l ≡ true → (x : A) × List·Memᴰ x l × (f x ≡ true)) → (x : A) × List·Memᴰ x (y ∷ l) × (f x ≡ true)
+      go (inl p) r = (y, List·Memᴰ·head refl, p)
+      go (inr p) r = ((r p) .0, List·Memᴰ·tail ((r p) .1), (r p) .2)
+
+  pub any-mem : {x : A} {l : List A} → List·Memᴰ x l → f x ≡ true → any f l ≡ true
+  unfolding any
+  any-mem (List·Memᴰ·head {x = y} {xs = l} e) p = or-l (f y) (any f l) (ap f (sym e) ∙ p)
+  any-mem (List·Memᴰ·tail {x = y} {xs = l} m) p = or-r (f y) (any f l) (any-mem m p)
+
+  pub any-none : {x : A} {l : List A} → any f l ≡ false → List·Memᴰ x l → f x ≡ false
+  any-none {x} e m = no-true (f x) (λ p. clash (any-mem m p) e)
+
+  pub none-any : (l : List A) → ((x : A) → List·Memᴰ x l → f x ≡ true → ⊥) → any f l ≡ false
+  none-any l h = no-true (any f l) (λ p. let r = any-find l p in h (r .0) (r .1) (r .2))
+
+pub any-append : {A : Type 0} (f : A → Bool) (s t : List A) → any f (s ++ t) ≡ (any f s || any f t)
+unfolding any
+any-append f [] t = refl
+any-append f (x ∷ s) t = ap (λ (c : Bool). f x || c) (any-append f s t) ∙ sym (or-assoc (f x) (any f s) (any f t))
+
+-- ---- bytes in a list
+
+pub in-mem : (l : List ℕ) (b : ℕ) → byteIn l b ≡ true → List·Memᴰ b l
+unfolding byteIn
+in-mem l b e = let r = any-find (eqb b) l e in Memᴰ·cast (eqb-true b (r .0) (r .2)) (r .1)
+
+pub mem-in : {l : List ℕ} {b : ℕ} → List·Memᴰ b l → byteIn l b ≡ true
+unfolding byteIn
+mem-in {b} m = any-mem (eqb b) m (eq-eqb b b refl)
+
+-- ---- equal byte strings
+
+pub same-eq : (p q : List ℕ) → same p q ≡ true → p ≡ q
+unfolding same
+same-eq [] [] e = refl
+same-eq [] (y ∷ q) e = absurd (false≢true e)
+same-eq (x ∷ p) [] e = absurd (false≢true e)
+same-eq (x ∷ p) (y ∷ q) e = ap₂ (λ (a : ℕ) (l : List ℕ). a ∷ l) (eqb-true x y (and-l (eqb x y) (same p q) e)) (same-eq p q (and-r (eqb x y) (same p q) e))
+
+pub same-refl : (p : List ℕ) → same p p ≡ true
+unfolding same
+same-refl [] = refl
+same-refl (x ∷ p) = ap₂ _&&_ (eq-eqb x x refl) (same-refl p)
+
+pub has-mem : (ps : List (List ℕ)) (p : List ℕ) → has ps p ≡ true → List·Memᴰ p ps
+unfolding has
+has-mem ps p e = let r = any-find (same p) ps e in Memᴰ·cast (same-eq p (r .0) (r .2)) (r .1)
+
+pub mem-has : {ps : List (List ℕ)} {p : List ℕ} → List·Memᴰ p ps → has ps p ≡ true
+unfolding has
+mem-has {p} m = any-mem (same p) m (same-refl p)
+
+-- ---- membership in what is built
+
+module _ {A B : Type 0} (f : A → List B) where
+  pub each-mem : {x : A} {l : List A} {y : B} → List·Memᴰ x l → List·Memᴰ y (f x) → List·Memᴰ y (each f l)
+  unfolding each
+  each-mem {x} {y} (List·Memᴰ·head {x = z} {xs = l} e) m = Memᴰ·append-left (each f l) (subst (λ (w : A). List·Memᴰ y (f w)) e m)
+  each-mem (List·Memᴰ·tail {x = z} {xs = l} n) m = Memᴰ·append-right (f z) (each-mem n m)
+
+  pub each-find : (l : List A) {y : B} → List·Memᴰ y (each f l) → (x : A) × List·Memᴰ x l × List·Memᴰ y (f x)
+  unfolding each
+  each-find [] m = absurd (List·Memᴰ·not-nil m)
+  each-find (z ∷ l) {y} m = go (List·Memᴰ·append-cases (f z) m) (each-find l)
+    where
+      go : List·Memᴰ y (f z) ⊎ List·Memᴰ y (each f l) → (List·Memᴰ y (each f l) → (x : A) × List·Memᴰ x l × List·Memᴰ y (f x)) → (x : A) × List·Memᴰ x (z ∷ l) × List·Memᴰ y (f x)
+      go (inl n) r = (z, List·Memᴰ·head refl, n)
+      go (inr n) r = ((r n) .0, List·Memᴰ·tail ((r n) .1), (r n) .2)
+
+module _ {A : Type 0} (f : A → Bool) where
+  pub keep-mem : {x : A} {l : List A} → List·Memᴰ x l → f x ≡ true → List·Memᴰ x (keep f l)
+  unfolding keep
+  keep-mem {x} (List·Memᴰ·head {x = z} {xs = l} e) t = go (f z) (ap f (sym e) ∙ t)
+    where
+      go : (c : Bool) → c ≡ true → List·Memᴰ x (cond c (z ∷ keep f l) (keep f l))
+      go true p = List·Memᴰ·head e
+      go false p = absurd (false≢true p)
+  keep-mem {x} (List·Memᴰ·tail {x = z} {xs = l} m) t = go (f z) (keep-mem m t)
+    where
+      go : (c : Bool) → List·Memᴰ x (keep f l) → List·Memᴰ x (cond c (z ∷ keep f l) (keep f l))
+      go true r = List·Memᴰ·tail r
+      go false r = r
+
+  pub keep-find : (l : List A) {x : A} → List·Memᴰ x (keep f l) → List·Memᴰ x l × (f x ≡ true)
+  unfolding keep
+  keep-find [] m = absurd (List·Memᴰ·not-nil m)
+  keep-find (z ∷ l) {x} m = go (f z) refl m (keep-find l)
+    where
+      go : (c : Bool) → f z ≡ c → List·Memᴰ x (cond c (z ∷ keep f l) (keep f l)) → (List·Memᴰ x (keep f l) → List·Memᴰ x l × (f x ≡ true)) → List·Memᴰ x (z ∷ l) × (f x ≡ true)
+      go true p n r = at (List·Memᴰ·cases-cons n)
+        where
+          at : (x ≡ z) ⊎ List·Memᴰ x (keep f l) → List·Memᴰ x (z ∷ l) × (f x ≡ true)
+          at (inl e) = (List·Memᴰ·head e, ap f e ∙ p)
+          at (inr k) = (List·Memᴰ·tail ((r k) .0), (r k) .1)
+      go false p n r = (List·Memᴰ·tail ((r n) .0), (r n) .1)
+
+-- a list with a member is not empty
+pub mem-pos : {A : Type 0} {x : A} {l : List A} → List·Memᴰ x l → 1 ≤ length l
+mem-pos (List·Memᴰ·head e) = omega arith
+mem-pos (List·Memᴰ·tail m) = omega arith
