@@ -67,7 +67,6 @@ textAnswer bs (some k) = record { number = 29; count = length bs; place = k; val
 
 -- "text decoding, after 27 and 28": 29 with the first bad offset. "On 29 the bytes stand decoded."
 unfoldable pub textOutput : Decoding → DecodeEnd → Output
-unfolding firstBad
 textOutput d complete = record { answer = textAnswer (d .bytes) (firstBad (d .bytes)); cells = d .bytes }
 textOutput d (absent index i) = decodeOutput d
 textOutput d (full index) = decodeOutput d

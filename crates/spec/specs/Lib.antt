@@ -17,3 +17,5 @@ pub mod Encode
 pub mod Decode
 pub mod Stream
 pub mod Plain
+pub mod Load
+pub mod Theorems

@@ -5,8 +5,8 @@ use mathlib.Core.Path.{_≡_}
 use mathlib.Core.Option.{Option, none, some}
 use mathlib.Core.List.{List, [], _∷_, _++_}
 use Prim.Native.Nat.{ℕ}
-use lib.ListN.{length, drop}
-use Rattle.spec.specs.Lists.{Bytes, over}
+use lib.ListN.{length, take, drop}
+use Rattle.spec.specs.Lists.{Bytes, each, over}
 use Rattle.spec.specs.Token.{Token, joined}
 use Rattle.spec.specs.Scan.{End, done, failed, scan}
 use Rattle.spec.specs.Answer.{Answer, whole}
@@ -121,10 +121,16 @@ Steps ts p c r q = Either ts p c r q (callRefusal (recordOf ts p) c)
 
 -- ---- a list of calls
 
--- the plain stream from p answers the calls cs by the replies rs
-abbrev pub Follows : List Token → Plain → List Call → List Reply → Type 0
-Follows ts p [] rs = rs ≡ []
-Follows ts p (c ∷ cs) rs = (r : Reply) × (rest : List Reply) × (q : Plain) × (rs ≡ r ∷ rest) × Steps ts p c r q × Follows ts q cs rest
+-- the plain stream goes from p to q over the calls cs, and answers them by the replies rs
+abbrev pub Follows : List Token → Plain → List Call → List Reply → Plain → Type 0
+Follows ts p [] rs q = (rs ≡ []) × (q ≡ p)
+Follows ts p (c ∷ cs) rs q =
+    (r : Reply) × (rest : List Reply) × (next : Plain) × (rs ≡ r ∷ rest) × Steps ts p c r next × Follows ts next cs rest q
+
+-- the ids handed out by a list of replies
+unfoldable pub handed : List Reply → List ℕ
+unfolding each
+handed rs = each (λ r. take (r .answer .count) (r .out)) rs
 
 -- ---- the calls on memory
 
