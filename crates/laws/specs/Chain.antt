@@ -2,7 +2,7 @@
 use mathlib.Core.Path.{_≡_, refl, sym, ap, ap₂, _∙_, subst}
 use mathlib.Core.Logic.{_⊎_, inl, inr}
 use mathlib.Core.Bool.{Bool, true, false, cond}
-use mathlib.Core.List.{List, [], _∷_, _++_, map, append-nil, List·Memᴰ, List·Memᴰ·head, List·Memᴰ·tail, Memᴰ·append-right, Memᴰ·cast, Memᴰ·of-map, append-cancel-left, head-eq-of-cons-eq}
+use mathlib.Core.List.{List, [], _∷_, _++_, map, append-nil, List·Memᴰ, List·Memᴰ·head, List·Memᴰ·tail, Memᴰ·append-right, Memᴰ·of-map, append-cancel-left, head-eq-of-cons-eq}
 use Prim.Native.Nat.{ℕ, suc, _≤_, _<_}
 use native.Mathlib.Omega.{arith}
 use lib.Dec.{eqb}
@@ -12,7 +12,7 @@ use borrow.Author.Tests.{eqb-true, eq-eqb}
 use Rattle.spec.specs.Trie.{labels}
 use Rattle.laws.specs.Tests.{either, no-true}
 use Rattle.laws.specs.Nodes.{label-node}
-use Rattle.laws.specs.Numbered.{place-of, number, at-place, place-stays, place-new, Fresh, labels-fresh}
+use Rattle.laws.specs.Numbered.{place-of, number, at-place, place-stays, place-new, Fresh, fresh-map, labels-fresh}
 use Rattle.laws.specs.Grow.{labels-snoc, label-self, snoc-inj, label-other}
 
 -- the numbers of p's children, in order
@@ -57,13 +57,6 @@ one-parent ps p q c m n =
     let a = Memᴰ·of-map (λ (l : ℕ). number ps (p ++ (l ∷ []))) (labels ps p) m in
     let b = Memᴰ·of-map (λ (l : ℕ). number ps (q ++ (l ∷ []))) (labels ps q) n in
     snoc-inj p q (a .0) (b .0) (number-inj ps (label-node ps p (a .0) (a .1)) (label-node ps q (b .0) (b .1)) (a .2 ∙ sym (b .2)))
-
-fresh-map : (f : ℕ → ℕ) (l : List ℕ) → Fresh l → ((x y : ℕ) → List·Memᴰ x l → List·Memᴰ y l → f x ≡ f y → x ≡ y) → Fresh (map f l)
-fresh-map f [] h i = tt
-fresh-map f (x ∷ l) h i = (
-  (λ m. let r = Memᴰ·of-map f l m in h .0 (Memᴰ·cast (i x (r .0) (List·Memᴰ·head refl) (List·Memᴰ·tail (r .1)) (sym (r .2))) (r .1))),
-  fresh-map f l (h .1) (λ a b m n e. i a b (List·Memᴰ·tail m) (List·Memᴰ·tail n) e),
-)
 
 last-inj : (p : List ℕ) (a b : ℕ) → p ++ (a ∷ []) ≡ p ++ (b ∷ []) → a ≡ b
 last-inj p a b e = head-eq-of-cons-eq (append-cancel-left p (a ∷ []) (b ∷ []) e)

@@ -52,6 +52,10 @@ falling-fresh ps (suc n) f = fresh-append (withCount ps (suc n)) (falling ps n) 
     apart : (p : List ℕ) → List·Memᴰ p (withCount ps (suc n)) → List·Memᴰ p (falling ps n) → ⊥
     apart p m k = let e = eqb-true (length (labels ps p)) (suc n) ((keep-find (λ (q : List ℕ). eqb (length (labels ps q)) (suc n)) ps m) .1) in let h = falling-le ps n k in omega arith
 
+pub order-fresh : (ps : List (List ℕ)) → Fresh ps → Fresh (order ps)
+unfolding order
+order-fresh ps f = falling-fresh ps (length ps) f
+
 fresh-fold : (L : List ℕ → List ℕ) (ps : List (List ℕ)) (xs : List Put) → Fresh ps → Fresh (map (λ (x : Put). x .node) xs)
     → ((p : List ℕ) → List·Memᴰ p (map (λ (x : Put). x .node) xs) → List·Memᴰ p ps → ⊥) → Fresh (map (λ (x : Put). x .node) (fold (put L) xs ps))
 unfolding fold put
@@ -76,8 +80,8 @@ unique {A} f (z ∷ xs) h {x} {y} m n e = go (List·Memᴰ·cases-cons m) (List�
     go (inr p) (inr q) r = r p q
 
 pub puts-fresh : (ts : List Token) → Fresh (map (λ (x : Put). x .node) (puts ts))
-unfolding puts place order
-puts-fresh ts = fresh-fold (labels (nodes ts)) (order (nodes ts)) [] (falling-fresh (nodes ts) (length (nodes ts)) (nodes-fresh ts)) tt (λ p m k. List·Memᴰ·not-nil m)
+unfolding puts place
+puts-fresh ts = fresh-fold (labels (nodes ts)) (order (nodes ts)) [] (order-fresh (nodes ts) (nodes-fresh ts)) tt (λ p m k. List·Memᴰ·not-nil m)
 
 -- ---- writes
 

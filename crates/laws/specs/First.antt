@@ -42,6 +42,15 @@ from-le f (suc n) s = go (f s) (from-le f n (suc s))
     go true r = omega arith
     go false r = omega arith
 
+pub from-most : (f : ℕ → Bool) (n s : ℕ) → firstFrom f n s ≤ s + n
+unfolding firstFrom
+from-most f zero s = omega arith
+from-most f (suc n) s = go (f s) (from-most f n (suc s))
+  where
+    go : (c : Bool) → firstFrom f n (suc s) ≤ suc s + n → cond c s (firstFrom f n (suc s)) ≤ s + suc n
+    go true r = omega arith
+    go false r = omega arith
+
 -- ---- a later start finds the same slot
 
 pub skip : (f : ℕ → Bool) (n s d : ℕ) → ((t : ℕ) → s ≤ t → t < s + d → f t ≡ false) → firstFrom f (d + n) s ≡ firstFrom f n (s + d)

@@ -14,3 +14,4 @@ pub mod Listed
 pub mod Fill
 pub mod Perm
 pub mod Search
+pub mod Bounds

@@ -2,11 +2,11 @@
 use mathlib.Core.Path.{_≡_, refl, sym, ap, ap₂, _∙_, subst}
 use mathlib.Core.Logic.{_⊎_, inl, inr}
 use mathlib.Core.Bool.{Bool, true, false, not, cond, false≢true}
-use mathlib.Core.List.{List, [], _∷_, _++_, List·Memᴰ, List·Memᴰ·head, List·Memᴰ·tail, List·Memᴰ·not-nil, List·Memᴰ·append-cases, Memᴰ·cast, List·Memᴰ·eq-of-singleton}
+use mathlib.Core.List.{List, [], _∷_, _++_, map, List·Memᴰ, List·Memᴰ·head, List·Memᴰ·tail, List·Memᴰ·not-nil, List·Memᴰ·append-cases, Memᴰ·cast, Memᴰ·of-map, List·Memᴰ·eq-of-singleton}
 use Prim.Native.Nat.{ℕ, zero, suc, _+_, _≤_, _<_}
 use native.Mathlib.Omega.{arith}
 use lib.Dec.{eqb}
-use lib.ListN.{length, getD}
+use lib.ListN.{length, getD, length-map}
 use borrow.Author.Tests.{eqb-true, eqb-false, not-true}
 use Rattle.spec.specs.Lists.{keep, each, fold, same, has}
 use Rattle.spec.specs.Token.{Token}
@@ -79,6 +79,13 @@ fresh-snoc (x ∷ xs) y f h = ((λ m. go (List·Memᴰ·append-cases xs m)), fre
     go : List·Memᴰ x xs ⊎ List·Memᴰ x (y ∷ []) → ⊥
     go (inl m) = f .0 m
     go (inr m) = h (List·Memᴰ·head (sym (List·Memᴰ·eq-of-singleton m)))
+
+pub fresh-map : {A B : Type 0} (f : A → B) (l : List A) → Fresh l → ((x y : A) → List·Memᴰ x l → List·Memᴰ y l → f x ≡ f y → x ≡ y) → Fresh (map f l)
+fresh-map f [] h i = tt
+fresh-map f (x ∷ l) h i = (
+  (λ m. let r = Memᴰ·of-map f l m in h .0 (Memᴰ·cast (i x (r .0) (List·Memᴰ·head refl) (List·Memᴰ·tail (r .1)) (sym (r .2))) (r .1))),
+  fresh-map f l (h .1) (λ a b m n e. i a b (List·Memᴰ·tail m) (List·Memᴰ·tail n) e),
+)
 
 new-fresh : (ps : List (List ℕ)) (p : List ℕ) → Fresh ps → Fresh (addNew ps p)
 unfolding addNew
@@ -165,6 +172,18 @@ pigeon (suc n) l f h =
 
 pub count-small : (ts : List Token) → Valid ts → (p : List ℕ) → length (labels (nodes ts) p) ≤ 256
 count-small ts v p = pigeon 256 (labels (nodes ts) p) (labels-fresh (nodes ts) p (nodes-fresh ts)) (labels-small ts v p)
+
+-- a list without repeats, all of whose members are in another, is no longer than it
+pub fresh-within : (qs ps : List (List ℕ)) → Fresh qs → ((p : List ℕ) → List·Memᴰ p qs → List·Memᴰ p ps) → length qs ≤ length ps
+fresh-within qs ps f h =
+    let d : length (map (place-of ps) qs) ≤ length ps = pigeon (length ps) (map (place-of ps) qs) (fresh-map (place-of ps) qs f same-place) below in
+    omega (arith, length-map qs (place-of ps))
+  where
+    same-place : (p q : List ℕ) → List·Memᴰ p qs → List·Memᴰ q qs → place-of ps p ≡ place-of ps q → p ≡ q
+    same-place p q m n e = sym (at-place (h p m)) ∙ ap (λ (i : ℕ). getD ps i []) e ∙ at-place (h q n)
+
+    below : (i : ℕ) → List·Memᴰ i (map (place-of ps) qs) → i < length ps
+    below i m = let r = Memᴰ·of-map (place-of ps) qs m in subst (λ (z : ℕ). z < length ps) (r .2) (place-lt (h (r .0) (r .1)))
 
 -- ---- the order from 256 children down
 

@@ -57,6 +57,13 @@ module _ (L : List ℕ → List ℕ) where
   )
 
   module _ (small : ByteLabels L) where
+    pub first-small : (p : List ℕ) → first (L p) < 256
+    first-small p = go (L p) (small p)
+      where
+        go : (ls : List ℕ) → ((l : ℕ) → List·Memᴰ l ls → l < 256) → first ls < 256
+        go [] h = unfold first in lit< tt
+        go (l ∷ ls) h = unfold first in h l (List·Memᴰ·head refl)
+
     -- a base in a block above every block used free
     pub above : (xs : List Put) (ls : List ℕ) (b : ℕ) → ((l : ℕ) → List·Memᴰ l ls → l < 256) → top xs < b / 256 → free L xs ls b ≡ true
     unfolding free used taken
@@ -75,11 +82,6 @@ module _ (L : List ℕ → List ℕ) where
             let v = xor-block-of (r .0 .base) (k .0) (small (r .0 .node) (k .0) (k .1)) in
             omega arith
 
-    first-small : (ls : List ℕ) → ((l : ℕ) → List·Memᴰ l ls → l < 256) → first ls < 256
-    unfolding first
-    first-small [] h = lit< tt
-    first-small (l ∷ ls) h = h l (List·Memᴰ·head refl)
-
     pub choose-free : (xs : List Put) (p : List ℕ) → free L xs (L p) (choose L xs (L p)) ≡ true
     unfolding choose words
     choose-free xs p = first-passes F (words xs - 256) 256 (above xs (L p) _ (small p) last)
@@ -88,14 +90,14 @@ module _ (L : List ℕ → List ℕ) where
         F s = free L xs (L p) (bitXor s (first (L p)))
 
         last : top xs < bitXor (256 + (words xs - 256)) (first (L p)) / 256
-        last = let q = xor-block-of (256 + (words xs - 256)) (first (L p)) (first-small (L p) (small p)) in omega arith
+        last = let q = xor-block-of (256 + (words xs - 256)) (first (L p)) (first-small p) in omega arith
 
     pub choose-block : (xs : List Put) (p : List ℕ) → 1 ≤ choose L xs (L p) / 256
     unfolding choose
     choose-block xs p =
         let F : ℕ → Bool = λ s. free L xs (L p) (bitXor s (first (L p))) in
         let s : ℕ = firstFrom F (words xs - 256) 256 in
-        let q = xor-block-of s (first (L p)) (first-small (L p) (small p)) in
+        let q = xor-block-of s (first (L p)) (first-small p) in
         let h = from-le F (words xs - 256) 256 in
         omega arith
 
