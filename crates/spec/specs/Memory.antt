@@ -19,6 +19,11 @@ pub record Memory : Type 0 where
   pub roots : List ℕ
   pub table : List ℕ
 
+-- the memory of five lists, in the order of the entries' parameters
+abbrev pub memory : List ℤ → List ℕ → List ℕ → List ℕ → List ℕ → Memory
+memory single offsets blob roots table =
+    record { single = single; offsets = offsets; blob = blob; roots = roots; table = table }
+
 -- "`single`, offsets or roots too short": number 1
 unfoldable pub tooShort : Memory → Bool
 tooShort m = ltb (length (m .single)) 256 || (ltb (length (m .offsets)) 65537 || ltb (length (m .roots)) 65536)
