@@ -15,3 +15,5 @@ pub mod Fill
 pub mod Perm
 pub mod Search
 pub mod Bounds
+pub mod Reads
+pub mod Walk

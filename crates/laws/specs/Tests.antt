@@ -39,6 +39,10 @@ pub and-r : (a b : Bool) → (a && b) ≡ true → b ≡ true
 and-r true b e = e
 and-r false b e = absurd (false≢true e)
 
+pub neither : (a b : Bool) → (a || b) ≡ false → (a ≡ false) × (b ≡ false)
+neither true b e = absurd (true≢false e)
+neither false b e = (refl, e)
+
 pub no-true : (b : Bool) → (b ≡ true → ⊥) → b ≡ false
 no-true true h = absurd (h refl)
 no-true false h = refl
