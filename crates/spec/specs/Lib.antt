@@ -19,3 +19,4 @@ pub mod Stream
 pub mod Plain
 pub mod Load
 pub mod Theorems
+pub mod Examples

@@ -143,22 +143,7 @@ unfoldable pub literal : List ℕ → Option (List ℕ)
 unfolding read
 literal s = whole (read s)
 
--- ── Document 01's examples ───────────────────────────────────────────
-
--- `'\x80'` is C2 80
-x80-in-string : literal (0x27 ∷ 0x5C ∷ 0x78 ∷ 0x38 ∷ 0x30 ∷ 0x27 ∷ []) ≡ some (0xC2 ∷ 0x80 ∷ [])
-unfolding literal
-x80-in-string = refl
-
--- `b'\x80'` is 80
-x80-in-bytes : literal (0x62 ∷ 0x27 ∷ 0x5C ∷ 0x78 ∷ 0x38 ∷ 0x30 ∷ 0x27 ∷ []) ≡ some (0x80 ∷ [])
-unfolding literal
-x80-in-bytes = refl
-
--- `'\01'` is 00 31
-zero-then-one : literal (0x27 ∷ 0x5C ∷ 0x30 ∷ 0x31 ∷ 0x27 ∷ []) ≡ some (0x00 ∷ 0x31 ∷ [])
-unfolding literal
-zero-then-one = refl
+-- ── Document 01's other examples (the starred ones stand in Examples) ───────────────────────────────────────────
 
 -- `'\ud800'` is bad
 surrogate-bad : literal (0x27 ∷ 0x5C ∷ 0x75 ∷ 0x64 ∷ 0x38 ∷ 0x30 ∷ 0x30 ∷ 0x27 ∷ []) ≡ none

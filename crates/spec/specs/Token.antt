@@ -43,6 +43,7 @@ pick off t best = best
 
 -- "the longest token there": of the tokens whose bytes begin s, the one with most bytes
 unfoldable pub longest : List Token → List ℕ → Option Token
+unfolding fit
 longest [] s = none
 longest (t ∷ ts) s = pick (fit (t .bytes) s) t (longest ts s)
 
@@ -55,7 +56,7 @@ isShort off = false
 
 -- s is a proper prefix of some token's bytes
 unfoldable pub properPrefix : List Token → List ℕ → Bool
-unfolding any
+unfolding any fit
 properPrefix ts s = any (λ t. isShort (fit (t .bytes) s)) ts
 
 -- "A position is decided when the bytes from it are no proper prefix of any token (the empty run is a prefix of all)."
