@@ -20,3 +20,4 @@ pub mod Plain
 pub mod Load
 pub mod Theorems
 pub mod Examples
+pub mod OtherMemory
