@@ -17,3 +17,5 @@ pub mod Search
 pub mod Bounds
 pub mod Reads
 pub mod Walk
+pub mod Matching
+pub mod Deciding

@@ -8,7 +8,7 @@ use native.Mathlib.Omega.{arith}
 use lib.Dec.{ltb}
 use lib.IntN.{pos}
 use lib.ListN.{length, take, getD, List·getD-eq-default, length-append, replicate, length-replicate, getD-replicate, drop, length-drop, List·getD-append}
-use lib.Seq.{take-at, getD-append-add, getD-take}
+use lib.Seq.{take-at, getD-take, getD-append-add}
 use borrow.Author.Tests.{ltb-true, ltb-false}
 use Rattle.spec.specs.Lists.{upFrom, over}
 use Rattle.spec.specs.Token.{Token, idOf}

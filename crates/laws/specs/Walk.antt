@@ -51,7 +51,7 @@ pub record Passed (ts : List Token) (p : List ℕ) (i n : ℕ) : Type 0 where
   pub token : 1 ≤ i → (t : Token) × List·Memᴰ t ts × Cut (t .bytes) p × (t .id ≡ i) × (length (t .bytes) ≡ n)
   pub longest : (t : Token) → List·Memᴰ t ts → Cut (t .bytes) p → length (t .bytes) ≤ n
 
-cut-length : {q s : List ℕ} → Cut q s → length q ≤ length s
+pub cut-length : {q s : List ℕ} → Cut q s → length q ≤ length s
 cut-length {q} c = omega (arith, simp length-append at (ap length (c .split)))
 
 cut-append : {q s : List ℕ} (r : List ℕ) → Cut q s → Cut q (s ++ r)
@@ -65,7 +65,7 @@ cut-within {q} p r c h = record { rest = drop (length q) p; split = sym (take-ap
     same-start = sym (take-append-le (length q) p r h) ∙ ap (take (length q)) (c .split) ∙ take-at q (c .rest) (length q) refl
 
 -- what begins s and is as long is s
-cut-all : {q s : List ℕ} → Cut q s → length s ≤ length q → q ≡ s
+pub cut-all : {q s : List ℕ} → Cut q s → length s ≤ length q → q ≡ s
 cut-all {q} {s} c h = sym (sym (take-all (length q) s h) ∙ ap (take (length q)) (c .split) ∙ take-at q (c .rest) (length q) refl)
 
 pub passed-start : (ts : List Token) (a : ℕ) → Passed ts (a ∷ []) 0 0
@@ -152,7 +152,7 @@ module _ {ts : List Token} (v : Valid ts) where
   leaf-stops : (p : List ℕ) → List·Memᴰ p (nodes ts) → baseOf (puts ts) p ≡ 0 → (b : ℕ) → List·Memᴰ (p ++ (b ∷ [])) (nodes ts) → ⊥
   leaf-stops p m z b k = let h = base-pos ts v p (placed ts v p m (mem-pos (node-label (nodes ts) p b k))) in omega arith
 
-  node-long : {p : List ℕ} → List·Memᴰ p (nodes ts) → 2 ≤ length p
+  pub node-long : {p : List ℕ} → List·Memᴰ p (nodes ts) → 2 ≤ length p
   node-long m = (node-is ts m) .cut .two
 
   module _ (table : List ℕ) (read : (i : ℕ) → getD table i 0 ≡ tableAt ts i) where
@@ -236,7 +236,7 @@ module _ {ts : List Token} (v : Valid ts) where
         }
         go false e = follow-reaches s q (onto noWalk w 2) small m here
 
-  root-word : (a b : ℕ) → b < 256 → rootAt ts (a * 256 + b) ≡ cond (has (nodes ts) (a ∷ b ∷ [])) (wordOf ts (a ∷ b ∷ []) 0) 0
+  pub root-word : (a b : ℕ) → b < 256 → rootAt ts (a * 256 + b) ≡ cond (has (nodes ts) (a ∷ b ∷ [])) (wordOf ts (a ∷ b ∷ []) 0) 0
   unfolding rootAt
   root-word a b h = ap₂ (λ (x y : ℕ). cond (has (nodes ts) (x ∷ y ∷ [])) (wordOf ts (x ∷ y ∷ []) zero) zero) (omega arith) (omega arith)
 
