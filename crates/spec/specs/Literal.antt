@@ -53,31 +53,29 @@ unfoldable pub lookUp : List (ℕ × ℕ) → ℕ → Option (List ℕ)
 lookUp [] c = none
 lookUp (p ∷ ps) c = cond (eqb c (p .0)) (some (p .1 ∷ [])) (lookUp ps c)
 
--- "`x` and two hexadecimal digits, one byte in `b`, else that code point in UTF-8"
-unfoldable pub byteOrPoint : Bool → ℕ → Option (List ℕ)
-unfolding utf8Of
-byteOrPoint true v = some (v ∷ [])
-byteOrPoint false v = some (utf8Of v)
+-- so many bytes behind the backslash stand for these bytes
+abbrev pub escaped : ℕ → Option (List ℕ) → Option Piece
+escaped n none = none
+escaped n (some bs) = some (record { bytes = bs; more = n })
+
+-- "`x` and two hexadecimal digits, one byte in `b`, else that code point in UTF-8"; s stands behind the letter
+unfoldable pub byteEscape : Escapes
+unfolding bind hexAfter utf8Of
+byteEscape inB s = escaped 3 (bind (hexRun 2 s) (λ v. some (cond inB (v ∷ []) (utf8Of v))))
 
 -- "`u` and four, never in `b`, never a surrogate (D800 to DFFF)"
-unfoldable pub pointOnly : Bool → ℕ → Option (List ℕ)
-unfolding utf8Of
-pointOnly true v = none
-pointOnly false v = cond (within (0xD800 to 0xDFFF) v) none (some (utf8Of v))
-
--- the escape of so many bytes behind the backslash
-abbrev pub escapeOf : ℕ → Option (List ℕ) → Option Piece
-escapeOf n none = none
-escapeOf n (some bs) = some (record { bytes = bs; more = n })
+unfoldable pub pointEscape : Escapes
+unfolding bind hexAfter utf8Of
+pointEscape inB s = escaped 5 (bind (hexRun 4 s) (λ v. cond (inB || within (0xD800 to 0xDFFF) v) none (some (utf8Of v))))
 
 -- The base's escapes: "The byte after a backslash decides", "Anything else is bad".
 unfoldable pub escape : Escapes
-unfolding bind hexAfter letters lookUp byteOrPoint pointOnly
+unfolding letters lookUp byteEscape pointEscape
 escape inB [] = none
 escape inB (c ∷ s) =
-    cond (eqb c 0x78) (escapeOf 3 (bind (hexRun 2 s) (byteOrPoint inB)))
-    (cond (eqb c 0x75) (escapeOf 5 (bind (hexRun 4 s) (pointOnly inB)))
-    (escapeOf 1 (lookUp letters c)))
+    cond (eqb c 0x78) (byteEscape inB s)
+    (cond (eqb c 0x75) (pointEscape inB s)
+    (escaped 1 (lookUp letters c)))
 
 -- "Inside, that quote bare is bad; other bytes stand for themselves, but in `b` literals only ASCII."
 abbrev pub plain : Bool → ℕ → ℕ → Option Piece

@@ -1,0 +1,57 @@
+-- `literal::piece_at` meets its contract. Assumes nothing.
+use mathlib.Core.Path.{_≡_, refl, sym, ap, _∙_}
+use native.Mathlib.Omega.{arith}
+use Rattle.spec.specs.Literal.{escape}
+use Rattle.literal.proofs.Numbers.{part-from}
+use Rattle.literal.proofs.Escapes.{piece-escape, piece-quote, piece-not-ascii, piece-ascii, piece-any}
+use borrow.Author.Needs.{needs}
+use Rattle.literal.proofs.piece_at.Statement.{statement}
+use Rattle.literal.proofs.piece_at.Tie as tie
+
+shared-slice-read-b : tie.Need-shared-slice-read-b
+shared-slice-read-b c = search needs
+
+sub-escape : tie.Need-sub-escape
+sub-escape c = search needs
+
+part-escape-start : tie.Need-part-escape-start
+part-escape-start c = search needs
+
+part-escape-end : tie.Need-part-escape-end
+part-escape-end c = search needs
+
+escape-requires : tie.Need-escape-requires
+escape-requires c κs = search needs
+
+returns : tie.Need-returns
+returns c =
+    c .escape .ensures
+    ∙ ap (escape (c .before .before .before .before .before .args .in-bytes)) (part-from 1 (c .before .before .before .before .before .args .rest .now))
+    ∙ sym (piece-escape _ _ _ _ (c .before .before .if1 .taken))
+
+returns-2 : tie.Need-returns-2
+returns-2 c = sym (piece-quote _ _ _ _ (c .before .if1 .left) (c .if2 .taken))
+
+returns-3 : tie.Need-returns-3
+returns-3 c = sym (piece-not-ascii _ _ _ _ (c .before .before .before .if1 .left) (c .before .before .if2 .left) (c .before .if3 .taken) (c .if4 .taken))
+
+returns-4 : tie.Need-returns-4
+returns-4 c = sym (piece-ascii _ _ _ _ (c .before .before .before .if1 .left) (c .before .before .if2 .left) (c .before .if3 .taken) (c .if4 .left))
+
+returns-5 : tie.Need-returns-5
+returns-5 c = sym (piece-any _ _ _ _ (c .before .before .if1 .left) (c .before .if2 .left) (c .if3 .left))
+
+pub piece-at-spec : {M : Type 1} → statement M
+piece-at-spec =
+    tie.close
+    (tie.spec
+    shared-slice-read-b
+    sub-escape
+    part-escape-start
+    part-escape-end
+    escape-requires
+    returns
+    returns-2
+    returns-3
+    returns-4
+    returns-5)
