@@ -16,7 +16,7 @@ use Rattle.spec.specs.Layout.{Put, baseOf, puts, wordOf}
 use Rattle.spec.specs.Memory.{Memory, Loaded}
 use Rattle.spec.specs.Match.{Walk, noWalk, walkOn, undecidedOn}
 use Rattle.spec.specs.Theorems.{Deciding}
-use Rattle.running.specs.Prefix.{proper-length}
+use Rattle.running.specs.Prefixes.{proper-length}
 use Rattle.running.specs.Longest.{proper-iff}
 use Rattle.laws.specs.Tests.{clash, and-l, and-r, iff-eq, any-find, any-mem, has-mem, mem-has, mem-pos}
 use Rattle.laws.specs.Tokens.{byte-at}

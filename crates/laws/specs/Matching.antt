@@ -18,7 +18,8 @@ use Rattle.spec.specs.Valid.{Valid}
 use Rattle.spec.specs.Memory.{Memory, idOrNone, Loaded}
 use Rattle.spec.specs.Match.{Walk, noWalk, walkOn, one, matchOn, found}
 use Rattle.spec.specs.Theorems.{matchOf, Matching}
-use Rattle.running.specs.Prefix.{Begins, begins-length}
+use Rattle.spec.specs.Plain.{Prefix as Begins}
+use Rattle.running.specs.Prefixes.{prefix-length as begins-length}
 use Rattle.running.specs.Longest.{longest-iff, longest-none-iff}
 use Rattle.laws.specs.Tests.{either}
 use Rattle.laws.specs.Tokens.{id-cases, id-pos, id-low}

@@ -12,21 +12,18 @@ use native.Mathlib.Omega.{arith}
 use lib.ListN.{length}
 use Rattle.spec.specs.Lists.{Bytes}
 use Rattle.spec.specs.Token.{Token, longest, undecided}
+use Rattle.spec.specs.Plain.{Prefix, Sure, Fails}
 use Rattle.spec.specs.Valid.{Valid}
 use Rattle.spec.specs.Scan.{done, failed, Scan, scanAt, scan, Stop, waiting, stuck, runAt, run}
-use Rattle.running.specs.Prefix.{Begins, Proper, begins-cons, begins-length, proper-length, bytes-right}
+use Rattle.running.specs.Prefixes.{Proper, prefix-cons, prefix-length, prefix-both, proper-length, bytes-right}
 use Rattle.running.specs.Longest.{undecided-iff, longest-iff, longest-self}
 use Rattle.running.specs.Joined.{ids-tell}
-use Rattle.running.specs.ScanLaws.{done≢failed, scan-nil, scan-none, scan-some}
+use Rattle.running.specs.ScanLaws.{scan-nil, scan-none, scan-some}
 use Rattle.running.specs.RunLaws.{run-after, scan-after, resume-from, stuck-from, rest-undecided}
 
--- whatever comes after T, the ids of the scan begin with these
-abbrev pub Sure : List Token → List ℕ → List ℕ → Type 0
-Sure ts T is = (Y : List ℕ) → Bytes Y → Begins is (scan ts (T ++ Y) .ids)
-
 -- whatever comes after T, the scan fails
-abbrev pub Certain : List Token → List ℕ → Type 0
-Certain ts T = (Y : List ℕ) → Bytes Y → (at : ℕ) × (b : ℕ) × (scan ts (T ++ Y) .end ≡ failed at b)
+abbrev pub AllFail : List Token → List ℕ → Type 0
+AllFail ts T = (Y : List ℕ) → Bytes Y → Fails (scan ts (T ++ Y) .end)
 
 -- ---- C
 
@@ -77,14 +74,14 @@ Apart (i ∷ is) [] = Unit {0}
 Apart (i ∷ is) (j ∷ js) = i ≢ j
 
 -- what begins both of them after rs begins rs
-fork : (is rs js ks : List ℕ) → Apart js ks → Begins is (rs ++ js) → Begins is (rs ++ ks) → Begins is rs
+fork : (is rs js ks : List ℕ) → Apart js ks → Prefix is (rs ++ js) → Prefix is (rs ++ ks) → Prefix is rs
 fork [] rs js ks d p q = (rs, refl)
 fork (i ∷ is) [] [] ks d p q = p
 fork (i ∷ is) [] (j ∷ js) [] d p q = q
-fork (i ∷ is) [] (j ∷ js) (k ∷ ks) d p q = absurd (d (begins-cons i j is js p .0 ∙ sym (begins-cons i k is ks q .0)))
+fork (i ∷ is) [] (j ∷ js) (k ∷ ks) d p q = absurd (d (prefix-cons i j is js p .0 ∙ sym (prefix-cons i k is ks q .0)))
 fork (i ∷ is) (r ∷ rs) js ks d p q =
-    let (e, p′) = begins-cons i r is (rs ++ js) p in
-    let (r′, w) = fork is rs js ks d p′ (begins-cons i r is (rs ++ ks) q .1) in
+    let (e, p′) = prefix-cons i r is (rs ++ js) p in
+    let (r′, w) = fork is rs js ks d p′ (prefix-cons i r is (rs ++ ks) q .1) in
     (r′, cc)
 
 -- Where a string is undecided, some bytes after it let the scan end, and its ids do not begin like those of the string alone.
@@ -104,7 +101,7 @@ module _ (ts : List Token) (v : Valid ts) (pos : ℕ) where
           let (n, w, top) = longest-iff ts v (b ∷ s) t .0 e in
           rw (scan-some ts pos b s t e) (λ q. omega (
             arith,
-            begins-length (t .bytes) (b ∷ s) w,
+            prefix-length (t .bytes) (b ∷ s) w,
             ap (λ (t : Token). length (t .bytes)) (ids-tell ts v u t m n q),
           ))
 
@@ -125,35 +122,39 @@ module _ (ts : List Token) (v : Valid ts) (pos : ℕ) where
 
 -- ---- A
 
--- "G becomes the longest list that, for every byte string Y of any length (the later bytes), begins the ids of the scan of T
--- followed by Y": it begins them all
-pub run-sure : (ts : List Token) (T : List ℕ) → Sure ts T (run ts T .ids)
-run-sure ts T = go (run ts T .stop) refl
+-- "the longest list that, for every byte string Y of any length (the later bytes), begins the ids of the scan of T followed by Y":
+-- it begins them all
+run-begins : (ts : List Token) (T Y : List ℕ) → Prefix (run ts T .ids) (scan ts (T ++ Y) .ids)
+run-begins ts T Y = go (run ts T .stop) refl
   where
-    go : (z : Stop) → run ts T .stop ≡ z → Sure ts T (run ts T .ids)
-    go (waiting at x) e Y h = rw (scan-resumes ts T at x e Y) (scanAt ts at 0 (x ++ Y) .ids, refl)
-    go (stuck at b) e Y h = rw (scan-stuck ts T at b e Y) ([], sym (append-nil (run ts T .ids)))
+    go : (z : Stop) → run ts T .stop ≡ z → Prefix (run ts T .ids) (scan ts (T ++ Y) .ids)
+    go (waiting at x) e = rw (scan-resumes ts T at x e Y) (scanAt ts at 0 (x ++ Y) .ids, refl)
+    go (stuck at b) e = rw (scan-stuck ts T at b e Y) ([], sym (append-nil (run ts T .ids)))
 
 -- and whatever begins them all begins it
-pub run-most : (ts : List Token) → Valid ts → (T is : List ℕ) → Sure ts T is → Begins is (run ts T .ids)
-run-most ts v T is h = go (run ts T .stop) refl
+run-longest : (ts : List Token) → Valid ts → (T is : List ℕ) → ((Y : List ℕ) → Bytes Y → Prefix is (scan ts (T ++ Y) .ids))
+    → Prefix is (run ts T .ids)
+run-longest ts v T is h = go (run ts T .stop) refl
   where
-    go : (z : Stop) → run ts T .stop ≡ z → Begins is (run ts T .ids)
+    go : (z : Stop) → run ts T .stop ≡ z → Prefix is (run ts T .ids)
     go (waiting at x) e =
         let (y, k, d, a) = forks ts v at x (rest-undecided ts T at x e) in
         fork is (run ts T .ids) (scanAt ts at 0 (x ++ y) .ids) (scanAt ts at 0 x .ids) a
         (rw (scan-resumes ts T at x e y) at (h y k)) (rw (append-nil T, scan-ends ts T at x e) at (h [] tt))
     go (stuck at b) e = rw (scan-stuck ts T at b e []) at (h [] tt)
 
-pub claim-A : (ts : List Token) → Valid ts → (T : List ℕ)
-    → Sure ts T (run ts T .ids) × ((is : List ℕ) → Sure ts T is → Begins is (run ts T .ids))
-claim-A ts v T = (run-sure ts T, run-most ts v T)
+pub claim-A : (ts : List Token) → Valid ts → (T : List ℕ) → Sure ts T (run ts T .ids)
+claim-A ts v T = record { begins = λ Y h. run-begins ts T Y; longest = run-longest ts v T }
+
+-- there is one such list
+pub sure-unique : (ts : List Token) (T G H : List ℕ) → Sure ts T G → Sure ts T H → G ≡ H
+sure-unique ts T G H g h = prefix-both G H (h .longest G (g .begins)) (g .longest H (h .begins))
 
 -- ---- B
 
 -- "If all these scans fail, failure is certain"
-pub stuck-certain : (ts : List Token) (T : List ℕ) (at b : ℕ) → run ts T .stop ≡ stuck at b → Certain ts T
-stuck-certain ts T at b e Y h = (at, b, ap (λ (r : Scan). r .end) (scan-stuck ts T at b e Y))
+pub stuck-fails : (ts : List Token) (T : List ℕ) (at b : ℕ) → run ts T .stop ≡ stuck at b → AllFail ts T
+stuck-fails ts T at b e Y h = rw (scan-stuck ts T at b e Y) tt
 
 -- while it waits, some later bytes let the scan end
 pub waiting-open : (ts : List Token) → Valid ts → (T : List ℕ) (at : ℕ) (x : List ℕ) → run ts T .stop ≡ waiting at x
@@ -162,15 +163,17 @@ waiting-open ts v T at x e =
     let (y, k, d, a) = forks ts v at x (rest-undecided ts T at x e) in
     (y, k, ap (λ (r : Scan). r .end) (scan-resumes ts T at x e y) ∙ d)
 
-pub claim-B : (ts : List Token) → Valid ts → (T : List ℕ) → ((at : ℕ) × (b : ℕ) × (run ts T .stop ≡ stuck at b)) ↔ Certain ts T
-claim-B ts v T = (λ w. stuck-certain ts T (w .0) (w .1) (w .2), λ h. go h (run ts T .stop) refl)
+pub waiting-holds : (ts : List Token) → Valid ts → (T : List ℕ) (at : ℕ) (x : List ℕ) → run ts T .stop ≡ waiting at x → AllFail ts T → ⊥
+waiting-holds ts v T at x e h =
+    let (Y, k, d) = waiting-open ts v T at x e in
+    rw d at (h Y k)
+
+pub claim-B : (ts : List Token) → Valid ts → (T : List ℕ) → ((at : ℕ) × (b : ℕ) × (run ts T .stop ≡ stuck at b)) ↔ AllFail ts T
+claim-B ts v T = (λ w. stuck-fails ts T (w .0) (w .1) (w .2), λ h. go h (run ts T .stop) refl)
   where
-    go : Certain ts T → (z : Stop) → run ts T .stop ≡ z → (at : ℕ) × (b : ℕ) × (run ts T .stop ≡ stuck at b)
+    go : AllFail ts T → (z : Stop) → run ts T .stop ≡ z → (at : ℕ) × (b : ℕ) × (run ts T .stop ≡ stuck at b)
     go h (stuck at b) e = (at, b, e)
-    go h (waiting at x) e =
-        let (Y, k, d) = waiting-open ts v T at x e in
-        let (p, b, f) = h Y k in
-        absurd (done≢failed p b (sym d ∙ f))
+    go h (waiting at x) e = absurd (waiting-holds ts v T at x e h)
 
 -- "22 carries where the scan of T fails and the byte there."
 pub claim-B-place : (ts : List Token) (T : List ℕ) (at b : ℕ) → run ts T .stop ≡ stuck at b

@@ -1,5 +1,5 @@
 -- The scan and its running form, in the order in which to read them.
-pub mod Prefix
+pub mod Prefixes
 pub mod Longest
 pub mod Joined
 pub mod ScanLaws

@@ -1,4 +1,4 @@
--- The longest token at the start of a string, and the strings that are undecided, in terms of beginnings alone; and that neither
+-- The longest token at the start of a string, and the strings that are undecided, in terms of prefixes alone; and that neither
 -- changes with more bytes where a string is decided. Assumes nothing.
 use mathlib.Core.Path.{_≡_, refl, sym, _∙_, ap}
 use mathlib.Core.Logic.{_≢_, _↔_, _⊎_, inl, inr}
@@ -13,9 +13,10 @@ use lib.ListN.{length}
 use lib.Seq.{take-at}
 use Rattle.spec.specs.Lists.{any}
 use Rattle.spec.specs.Token.{Token, Fit, fits, short, off, fit, pick, longest, isShort, properPrefix, undecided}
+use Rattle.spec.specs.Plain.{Prefix}
 use Rattle.spec.specs.Valid.{Distinct, Valid}
-use Rattle.running.specs.Prefix.{Begins, Proper, begins-length, begins-trans}
-use Rattle.running.specs.Prefix.{fits≢short, fits≢off, short≢off, fits-iff, short-iff, fit-stable}
+use Rattle.running.specs.Prefixes.{Proper, prefix-length, prefix-trans}
+use Rattle.running.specs.Prefixes.{fits≢short, fits≢off, short≢off, fits-iff, short-iff, fit-stable}
 
 -- ---- the longest token
 
@@ -75,7 +76,7 @@ bytes-tell (x ∷ ts) d t u (there m) (there n) e = bytes-tell ts (d .1) t u m n
 -- t begins s, and no token that begins s is longer
 abbrev pub IsLongest : List Token → List ℕ → Token → Type 0
 IsLongest ts s t =
-    Mem t ts × Begins (t .bytes) s × ((u : Token) → Mem u ts → Begins (u .bytes) s → length (u .bytes) ≤ length (t .bytes))
+    Mem t ts × Prefix (t .bytes) s × ((u : Token) → Mem u ts → Prefix (u .bytes) s → length (u .bytes) ≤ length (t .bytes))
 
 -- "the longest token there"
 pub longest-iff : (ts : List Token) → Valid ts → (s : List ℕ) (t : Token) → (longest ts s ≡ some t) ↔ IsLongest ts s t
@@ -95,27 +96,27 @@ longest-iff ts v s t = (λ e. to (rw e at (best ts s)), λ w. from w (longest ts
         cc (take-at (t .bytes) r (length (u .bytes)) n, take-at (u .bytes) r′ (length (u .bytes)) refl) in
         ap some (bytes-tell ts (v .distinct) u t (h .0) (w .0) b)
 
-pub longest-none-iff : (ts : List Token) (s : List ℕ) → (longest ts s ≡ none) ↔ ((u : Token) → Mem u ts → Begins (u .bytes) s → ⊥)
+pub longest-none-iff : (ts : List Token) (s : List ℕ) → (longest ts s ≡ none) ↔ ((u : Token) → Mem u ts → Prefix (u .bytes) s → ⊥)
 longest-none-iff ts s = (λ e u m w. to (rw e at (best ts s)) u m w, λ w. from w (longest ts s) (best ts s))
   where
-    to : Best ts s none → (u : Token) → Mem u ts → Begins (u .bytes) s → ⊥
+    to : Best ts s none → (u : Token) → Mem u ts → Prefix (u .bytes) s → ⊥
     to h u m w = h u m (fits-iff (u .bytes) s .1 w)
 
-    from : ((u : Token) → Mem u ts → Begins (u .bytes) s → ⊥) → (m : Option Token) → Best ts s m → m ≡ none
+    from : ((u : Token) → Mem u ts → Prefix (u .bytes) s → ⊥) → (m : Option Token) → Best ts s m → m ≡ none
     from w none h = refl
     from w (some u) h = absurd (w u (h .0) (fits-iff (u .bytes) s .0 (h .1)))
 
 -- a token is the longest one at its own bytes
 pub longest-self : (ts : List Token) → Valid ts → (u : Token) → Mem u ts → longest ts (u .bytes) ≡ some u
 longest-self ts v u m =
-    longest-iff ts v (u .bytes) u .1 (m, ([], sym (append-nil (u .bytes))), λ w n b. begins-length (w .bytes) (u .bytes) b)
+    longest-iff ts v (u .bytes) u .1 (m, ([], sym (append-nil (u .bytes))), λ w n b. prefix-length (w .bytes) (u .bytes) b)
 
--- the longest token stays the longest in a beginning of the string that still has it
-pub longest-cut : (ts : List Token) → Valid ts → (s p : List ℕ) (t : Token) → longest ts s ≡ some t → Begins p s → Begins (t .bytes) p
+-- the longest token stays the longest in a prefix of the string that still has it
+pub longest-cut : (ts : List Token) → Valid ts → (s p : List ℕ) (t : Token) → longest ts s ≡ some t → Prefix p s → Prefix (t .bytes) p
     → longest ts p ≡ some t
 longest-cut ts v s p t e w b =
     let (m, f, top) = longest-iff ts v s t .0 e in
-    longest-iff ts v p t .1 (m, b, λ u n c. top u n (begins-trans (u .bytes) p s c w))
+    longest-iff ts v p t .1 (m, b, λ u n c. top u n (prefix-trans (u .bytes) p s c w))
 
 -- ---- undecided
 
@@ -133,16 +134,16 @@ neither : (a b : Bool) → (a || b) ≡ false → (a ≡ false) × (b ≡ false)
 neither true b e = absurd (true≢false e)
 neither false b e = (refl, e)
 
-prefix-none : (ts : List Token) (s : List ℕ) → properPrefix ts s ≡ false → (u : Token) → Mem u ts → fit (u .bytes) s ≢ short
+proper-none : (ts : List Token) (s : List ℕ) → properPrefix ts s ≡ false → (u : Token) → Mem u ts → fit (u .bytes) s ≢ short
 unfolding properPrefix any
-prefix-none (t ∷ ts) s e u (here p) =
+proper-none (t ∷ ts) s e u (here p) =
     rw p (isShort-false (fit (t .bytes) s) (neither (isShort (fit (t .bytes) s)) (properPrefix ts s) e .0))
-prefix-none (t ∷ ts) s e u (there m) = prefix-none ts s (neither (isShort (fit (t .bytes) s)) (properPrefix ts s) e .1) u m
+proper-none (t ∷ ts) s e u (there m) = proper-none ts s (neither (isShort (fit (t .bytes) s)) (properPrefix ts s) e .1) u m
 
-prefix-some : (ts : List Token) (s : List ℕ) → properPrefix ts s ≡ true → (u : Token) × Mem u ts × (fit (u .bytes) s ≡ short)
+proper-some : (ts : List Token) (s : List ℕ) → properPrefix ts s ≡ true → (u : Token) × Mem u ts × (fit (u .bytes) s ≡ short)
 unfolding properPrefix any
-prefix-some [] s e = absurd (false≢true e)
-prefix-some (t ∷ ts) s e = go (isShort (fit (t .bytes) s)) refl e (prefix-some ts s)
+proper-some [] s e = absurd (false≢true e)
+proper-some (t ∷ ts) s e = go (isShort (fit (t .bytes) s)) refl e (proper-some ts s)
   where
     go : (c : Bool) → isShort (fit (t .bytes) s) ≡ c → (c || properPrefix ts s) ≡ true
         → (properPrefix ts s ≡ true → (u : Token) × Mem u ts × (fit (u .bytes) s ≡ short))
@@ -154,11 +155,11 @@ pub proper-iff : (ts : List Token) (s : List ℕ) → (properPrefix ts s ≡ tru
 proper-iff ts s = (to, λ w. from (w .0) (w .1) (w .2) (properPrefix ts s) refl)
   where
     to : properPrefix ts s ≡ true → (u : Token) × Mem u ts × Proper s (u .bytes)
-    to e = let (u, m, f) = prefix-some ts s e in (u, m, short-iff (u .bytes) s .0 f)
+    to e = let (u, m, f) = proper-some ts s e in (u, m, short-iff (u .bytes) s .0 f)
 
     from : (u : Token) → Mem u ts → Proper s (u .bytes) → (c : Bool) → properPrefix ts s ≡ c → c ≡ true
     from u m w true e = refl
-    from u m w false e = absurd (prefix-none ts s e u m (short-iff (u .bytes) s .1 w))
+    from u m w false e = absurd (proper-none ts s e u m (short-iff (u .bytes) s .1 w))
 
 -- "A position is decided when the bytes from it are no proper prefix of any token (the empty run is a prefix of all)."
 pub undecided-iff : (ts : List Token) (s : List ℕ) → (undecided ts s ≡ true) ↔ ((s ≡ []) ⊎ ((u : Token) × Mem u ts × Proper s (u .bytes)))

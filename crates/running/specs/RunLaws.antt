@@ -9,9 +9,10 @@ use Prim.Native.Nat.{ℕ, zero, suc, pred, _+_, _≤_}
 use native.Mathlib.Omega.{arith}
 use lib.ListN.{length, drop}
 use Rattle.spec.specs.Token.{Token, longest, properPrefix, undecided, joined}
+use Rattle.spec.specs.Plain.{Prefix}
 use Rattle.spec.specs.Valid.{Valid}
 use Rattle.spec.specs.Scan.{failed, Scan, scanned, scanAt, waiting, stuck, Run, ran, runAt, run}
-use Rattle.running.specs.Prefix.{Begins, Proper, begins-length, proper-length, fits-iff}
+use Rattle.running.specs.Prefixes.{Proper, prefix-length, proper-length, fits-iff}
 use Rattle.running.specs.Longest.{Best, best, proper-iff, undecided-iff, longest-stable, proper-stable}
 use Rattle.running.specs.Joined.{joined-nil, joined-cons}
 use Rattle.running.specs.ScanLaws.{nowhere, scan-none, scan-some, rejoin}
@@ -50,7 +51,7 @@ pub data View (ts : List Token) (pos b : ℕ) (s : List ℕ) : Type 0 where
   fails : ((y : List ℕ) → scanAt ts pos 0 (b ∷ (s ++ y)) ≡ nowhere pos b)
       → ((y : List ℕ) → runAt ts pos 0 (b ∷ (s ++ y)) ≡ stuck-with pos b)
       → runAt ts pos 0 (b ∷ s) ≡ stuck-with pos b → View ts pos b s
-  steps : (t : Token) → Mem t ts → Begins (t .bytes) (b ∷ s) → pred (length (t .bytes)) ≤ length s
+  steps : (t : Token) → Mem t ts → Prefix (t .bytes) (b ∷ s) → pred (length (t .bytes)) ≤ length s
       → ((y : List ℕ) → scanAt ts pos 0 (b ∷ (s ++ y)) ≡ scanned (t .id) (scanAt ts (suc pos) (pred (length (t .bytes))) (s ++ y)))
       → ((y : List ℕ) → runAt ts pos 0 (b ∷ (s ++ y)) ≡ ran (t .id) (runAt ts (suc pos) (pred (length (t .bytes))) (s ++ y)))
       → runAt ts pos 0 (b ∷ s) ≡ ran (t .id) (runAt ts (suc pos) (pred (length (t .bytes))) s) → View ts pos b s
@@ -68,7 +69,7 @@ view ts pos b s = go (properPrefix ts (b ∷ s)) refl (longest ts (b ∷ s)) ref
     go false c (some t) l h =
         let (m, f, top) = h in
         let w = fits-iff (t .bytes) (b ∷ s) .0 f in
-        steps t m w (omega (arith, begins-length (t .bytes) (b ∷ s) w))
+        steps t m w (omega (arith, prefix-length (t .bytes) (b ∷ s) w))
         (λ y. scan-some ts pos b (s ++ y) t (longest-stable ts (b ∷ s) y c ∙ l))
         (λ y. run-some ts pos b (s ++ y) t (proper-stable ts (b ∷ s) y c) (longest-stable ts (b ∷ s) y c ∙ l))
         (run-some ts pos b s t c l)

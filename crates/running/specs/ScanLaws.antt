@@ -12,9 +12,11 @@ use lib.ListN.{length, length-append, take, drop, getD, take-append-drop}
 use lib.Seq.{length-take-le, take-at, drop-at, getD-at}
 use Rattle.spec.specs.Lists.{all}
 use Rattle.spec.specs.Token.{Token, longest, joined, present}
+use Rattle.spec.specs.Plain.{Prefix}
 use Rattle.spec.specs.Valid.{Valid}
 use Rattle.spec.specs.Scan.{done, failed, Scan, scanned, scanAt, scan}
-use Rattle.running.specs.Prefix.{Begins, begins-length, begins-head}
+use Rattle.spec.specs.Theorems.{IdsPresent, RoundTrip, UpToFailure}
+use Rattle.running.specs.Prefixes.{prefix-length, prefix-head}
 use Rattle.running.specs.Longest.{Best, best, longest-iff, longest-cut}
 use Rattle.running.specs.Joined.{joined-nil, joined-cons, present-token}
 
@@ -59,7 +61,7 @@ pub longest-fits : (ts : List Token) → Valid ts → (s : List ℕ) (t : Token)
     → (1 ≤ length (t .bytes)) × (length (t .bytes) ≤ length s)
 longest-fits ts v s t e =
     let (m, f, top) = longest-iff ts v s t .0 e in
-    (v .nonempty t m, begins-length (t .bytes) s f)
+    (v .nonempty t m, prefix-length (t .bytes) s f)
 
 -- "the scan finds at each position, from 0, the longest token there; its length is the step"
 pub scan-step : (ts : List Token) → Valid ts → (pos b : ℕ) (s : List ℕ) (t : Token) → longest ts (b ∷ s) ≡ some t
@@ -87,15 +89,15 @@ present-from ts pos zero (b ∷ s) = go (longest ts (b ∷ s)) refl (best ts (b 
     go none e w ih = rw (scan-none ts pos b s e)
     go (some t) e w ih = rw (scan-some ts pos b s t e, all, present-token ts t (w .0)) (ih (pred (length (t .bytes))))
 
-pub scan-present : (ts : List Token) (s : List ℕ) → all (present ts) (scan ts s .ids) ≡ true
-scan-present ts s = present-from ts 0 0 s
+pub ids-present : IdsPresent
+ids-present ts v s = present-from ts 0 0 s
 
 -- ---- the bytes of the ids
 
 -- the bytes b ∷ s are those of the token and what is left
-pub rejoin : (p : List ℕ) (b : ℕ) (s : List ℕ) → 1 ≤ length p → Begins p (b ∷ s) → p ++ drop (pred (length p)) s ≡ b ∷ s
+pub rejoin : (p : List ℕ) (b : ℕ) (s : List ℕ) → 1 ≤ length p → Prefix p (b ∷ s) → p ++ drop (pred (length p)) s ≡ b ∷ s
 rejoin p b s n w =
-    ap (λ (q : List ℕ). q ++ drop (pred (length p)) s) (begins-head p b s n w)
+    ap (λ (q : List ℕ). q ++ drop (pred (length p)) s) (prefix-head p b s n w)
     ∙ ap (λ (q : List ℕ). b ∷ q) (take-append-drop (pred (length p)) s)
 
 done-from : (ts : List Token) → Valid ts → (pos k : ℕ) (s : List ℕ) → k ≤ length s → scanAt ts pos k s .end ≡ done
@@ -117,8 +119,8 @@ done-from ts v pos zero (b ∷ s) l e = go (longest ts (b ∷ s)) refl (λ k l e
         rw (scan-some ts pos b s t q, joined-cons ts v t m, i) (rejoin (t .bytes) b s n f)
 
 -- the ids of a scan that is done decode to its input
-pub scan-done : (ts : List Token) → Valid ts → (s : List ℕ) → scan ts s .end ≡ done → joined ts (scan ts s .ids) ≡ s
-scan-done ts v s e = done-from ts v 0 0 s (omega arith) e
+pub round-trip : RoundTrip
+round-trip ts v s e = done-from ts v 0 0 s (omega arith) e
 
 -- ---- failure
 
@@ -162,7 +164,7 @@ failing-step ts v pos b₀ s t e at b f =
     let k = pred (length (t .bytes)) in
     let (m, w, top) = longest-iff ts v (b₀ ∷ s) t .0 e in
     let (n, l) = longest-fits ts v (b₀ ∷ s) t e in
-    let h : t .bytes ≡ b₀ ∷ take k s = begins-head (t .bytes) b₀ s n w in
+    let h : t .bytes ≡ b₀ ∷ take k s = prefix-head (t .bytes) b₀ s n w in
     let i : s ≡ (take k s ++ f .before) ++ b ∷ f .after =
     sym (append-assoc (take k s) (f .before) (b ∷ f .after)
     ∙ ap (λ (q : List ℕ). take k s ++ q) (sym (f .input))
@@ -221,3 +223,8 @@ scan-failed ts v s at b e =
       decoded = f .decoded ∙ sym q;
       alone = ap (scan ts) q ∙ f .alone;
     }
+
+pub up-to-failure : UpToFailure
+up-to-failure ts v s k b e =
+    let f = scan-failed ts v s k b e in
+    (f .inside, f .byte, f .alone, f .decoded)

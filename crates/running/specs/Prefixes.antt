@@ -1,5 +1,5 @@
--- Beginnings of byte strings, and how a token's bytes lie against a string in terms of them: what `fit` says, and that more bytes
--- change nothing but what was too short. Assumes nothing.
+-- Prefixes, and how a token's bytes lie against a string in terms of them: what `fit` says, and that more bytes change nothing but what
+-- was too short. Assumes nothing.
 use mathlib.Core.Path.{_≡_, refl, sym, _∙_, ap}
 use mathlib.Core.Logic.{_≢_, _↔_}
 use mathlib.Core.Bool.{Bool, true, false}
@@ -11,45 +11,42 @@ use lib.Dec.{eqb}
 use lib.ListN.{length, length-append, take}
 use lib.Seq.{take-append-seam}
 use Rattle.spec.specs.Lists.{Bytes}
+use Rattle.spec.specs.Plain.{Prefix}
 use Rattle.spec.specs.Token.{Fit, fits, short, off, fitIf, fit}
-
--- p begins s
-abbrev pub Begins : List ℕ → List ℕ → Type 0
-Begins p s = (r : List ℕ) × (s ≡ p ++ r)
 
 -- s is a proper prefix of p
 abbrev pub Proper : List ℕ → List ℕ → Type 0
 Proper s p = (c : ℕ) × (y : List ℕ) × (p ≡ s ++ c ∷ y)
 
--- ---- beginnings
+-- ---- prefixes
 
-pub begins-nothing : (i : ℕ) (is : List ℕ) → Begins (i ∷ is) [] → ⊥
-begins-nothing i is (r, e) = nil≢cons e
+pub prefix-nothing : (i : ℕ) (is : List ℕ) → Prefix (i ∷ is) [] → ⊥
+prefix-nothing i is (r, e) = nil≢cons e
 
-pub begins-cons : (i j : ℕ) (is js : List ℕ) → Begins (i ∷ is) (j ∷ js) → (j ≡ i) × Begins is js
-begins-cons i j is js (r, e) = (cc, (r, cc))
+pub prefix-cons : (i j : ℕ) (is js : List ℕ) → Prefix (i ∷ is) (j ∷ js) → (j ≡ i) × Prefix is js
+prefix-cons i j is js (r, e) = (cc, (r, cc))
 
-pub begins-length : (p s : List ℕ) → Begins p s → length p ≤ length s
-begins-length p s (r, e) = omega (arith, simp length-append at (ap length e))
+pub prefix-length : (p s : List ℕ) → Prefix p s → length p ≤ length s
+prefix-length p s (r, e) = omega (arith, simp length-append at (ap length e))
 
 -- what begins another and is no shorter is the other
 pub no-shorter : (p r : List ℕ) → length (p ++ r) ≤ length p → p ++ r ≡ p
 no-shorter p [] h = append-nil p
 no-shorter p (c ∷ r) h = absurd (omega (arith, simp length-append at h))
 
-pub begins-both : (p q : List ℕ) → Begins p q → Begins q p → p ≡ q
-begins-both p q (r, e) w = sym (e ∙ no-shorter p r (rw e at (begins-length q p w)))
+pub prefix-both : (p q : List ℕ) → Prefix p q → Prefix q p → p ≡ q
+prefix-both p q (r, e) w = sym (e ∙ no-shorter p r (rw e at (prefix-length q p w)))
 
-pub begins-trans : (p q s : List ℕ) → Begins p q → Begins q s → Begins p s
-begins-trans p q s (r, e) (r′, e′) = (r ++ r′, cc (append-assoc p r r′))
+pub prefix-trans : (p q s : List ℕ) → Prefix p q → Prefix q s → Prefix p s
+prefix-trans p q s (r, e) (r′, e′) = (r ++ r′, cc (append-assoc p r r′))
 
 pub proper-length : (s p : List ℕ) → Proper s p → length s < length p
 proper-length s p (c, y, e) = omega (arith, simp length-append at (ap length e))
 
 -- what begins b ∷ s and is not empty is b and the first bytes of s
-pub begins-head : (p : List ℕ) (b : ℕ) (s : List ℕ) → 1 ≤ length p → Begins p (b ∷ s) → p ≡ b ∷ take (pred (length p)) s
-begins-head [] b s n w = absurd (omega arith)
-begins-head (a ∷ p) b s n (r, e) =
+pub prefix-head : (p : List ℕ) (b : ℕ) (s : List ℕ) → 1 ≤ length p → Prefix p (b ∷ s) → p ≡ b ∷ take (pred (length p)) s
+prefix-head [] b s n w = absurd (omega arith)
+prefix-head (a ∷ p) b s n (r, e) =
     let z : s ≡ p ++ r = cc in
     cc (take-append-seam p r)
 
@@ -82,7 +79,7 @@ fitIf-on : (c : Bool) (f g : Fit) → g ≢ off → fitIf c f ≡ g → (c ≡ t
 fitIf-on true f g n e = (refl, e)
 fitIf-on false f g n e = absurd (n (sym e))
 
-fit-fits : (p s : List ℕ) → fit p s ≡ fits → Begins p s
+fit-fits : (p s : List ℕ) → fit p s ≡ fits → Prefix p s
 unfolding fit
 fit-fits [] s e = (s, refl)
 fit-fits (a ∷ p) [] e = absurd (fits≢short (sym e))
@@ -97,7 +94,7 @@ fits-of [] r = refl
 fits-of (a ∷ p) r = rw (eq-eqb a a refl) (fits-of p r)
 
 -- it fits where it begins the string
-pub fits-iff : (p s : List ℕ) → (fit p s ≡ fits) ↔ Begins p s
+pub fits-iff : (p s : List ℕ) → (fit p s ≡ fits) ↔ Prefix p s
 fits-iff p s = (fit-fits p s, λ w. rw (w .1) (fits-of p (w .0)))
 
 fit-short : (p s : List ℕ) → fit p s ≡ short → Proper s p
