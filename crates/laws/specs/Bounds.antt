@@ -15,13 +15,14 @@ use Rattle.spec.specs.Trie.{extended, cuts, addNew, nodes, nodeCount, labels, o
 use Rattle.spec.specs.Layout.{Put, firstFrom, top, words, first, free, choose, put, place, baseOf, pack, slotWord, puts, wordOf, tableAt, rootAt, tableWords}
 use Rattle.spec.specs.Valid.{Rising, Valid}
 use Rattle.spec.specs.Memory.{blobBytes}
+use Rattle.spec.specs.Theorems.{Bounds}
 use Rattle.laws.specs.Tokens.{id-bound}
 use Rattle.laws.specs.Nodes.{ByteLabels, labels-small, order-find}
 use Rattle.laws.specs.Numbered.{nodes-fresh, fresh-within}
 use Rattle.laws.specs.Xor.{xor-block-of}
 use Rattle.laws.specs.First.{from-most}
 use Rattle.laws.specs.Placed.{top-le, first-small}
-use Rattle.laws.specs.Lookup.{Owner, owner}
+use Rattle.laws.specs.Slots.{Owner, owner}
 use Rattle.laws.specs.Step.{Holds, base-cases}
 use Rattle.laws.specs.Fill.{order-fresh}
 
@@ -156,3 +157,11 @@ module _ (ts : List Token) (v : Valid ts) where
       go : (T ≡ 0) ⊎ Owner (labels (nodes ts)) (wordOf ts) (puts ts) i → T < 2 ^ 64
       go (inl z) = subst (λ (w : ℕ). w < 2 ^ 64) (sym z) (lit< tt)
       go (inr o) = subst (λ (w : ℕ). w < 2 ^ 64) (sym (o .is)) (word-small (o .own .node ++ (o .lab ∷ [])) (o .lab) (labels-small ts v (o .own .node) (o .lab) (o .child)))
+
+pub bounds : Bounds
+bounds ts v = record {
+  tokens = tokens-few ts v;
+  blob = (let k = blob-small ts v in omega arith);
+  nodes = nodeCount-small ts v;
+  table = tableWords-small ts v;
+}

@@ -21,7 +21,7 @@ use Rattle.laws.specs.Nodes.{label-node, labels-small, order-find}
 use Rattle.laws.specs.Numbered.{Fresh, nodes-fresh, keep-fresh}
 use Rattle.laws.specs.Xor.{xor-block-of}
 use Rattle.laws.specs.Placed.{top-le}
-use Rattle.laws.specs.Lookup.{Owner, owner}
+use Rattle.laws.specs.Slots.{Owner, owner}
 use Rattle.laws.specs.Step.{put-find, Holds, base-cases, placed, step-word}
 use Rattle.laws.specs.Listed.{up-length, up-at}
 

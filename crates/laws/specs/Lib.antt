@@ -8,7 +8,7 @@ pub mod Chain
 pub mod Xor
 pub mod First
 pub mod Placed
-pub mod Lookup
+pub mod Slots
 pub mod Step
 pub mod Listed
 pub mod Fill
@@ -19,3 +19,6 @@ pub mod Reads
 pub mod Walk
 pub mod Matching
 pub mod Deciding
+pub mod Spans
+pub mod Decoding
+pub mod Encoding

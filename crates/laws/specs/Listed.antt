@@ -19,7 +19,7 @@ use Rattle.laws.specs.Tests.{either}
 use Rattle.laws.specs.Nodes.{labels-small}
 use Rattle.laws.specs.Xor.{xor-block-of}
 use Rattle.laws.specs.Placed.{top-le}
-use Rattle.laws.specs.Lookup.{Owner, owner}
+use Rattle.laws.specs.Slots.{Owner, owner}
 
 pub up-length : {A : Type 0} (f : ℕ → A) (n i : ℕ) → length (upFrom f n i) ≡ n
 unfolding upFrom

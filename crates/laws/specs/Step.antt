@@ -19,7 +19,7 @@ use Rattle.laws.specs.Tests.{clash, either, same-eq, same-refl, has-mem,
 use Rattle.laws.specs.Tokens.{id-pos, id-low, id-bound}
 use Rattle.laws.specs.Nodes.{IsNode, node-is, is-node, label-node, node-label, labels-small, order-mem, order-find}
 use Rattle.laws.specs.Placed.{Good, place-good}
-use Rattle.laws.specs.Lookup.{hit, Owner, owner, ours, block-zero}
+use Rattle.laws.specs.Slots.{hit, Owner, owner, ours, block-zero}
 
 -- ---- what is placed
 

@@ -41,7 +41,7 @@ id-pos {t} p low (List·Memᴰ·tail {x = y} {xs = ts} m) e = go (same p (y .byt
     go true h = low y (List·Memᴰ·head refl)
     go false h = h
 
-rising-low : (ts : List Token) (low : ℕ) → Rising low ts → {t : Token} → List·Memᴰ t ts → low < t .id
+pub rising-low : (ts : List Token) (low : ℕ) → Rising low ts → {t : Token} → List·Memᴰ t ts → low < t .id
 rising-low [] low r m = absurd (List·Memᴰ·not-nil m)
 rising-low (u ∷ ts) low r {t} m = go (List·Memᴰ·cases-cons m) (rising-low ts (u .id) (r .1))
   where
