@@ -1,27 +1,29 @@
 -- What follows of the plain stream, and so of the calls on loaded memory: the ids handed out while it is open, after its end, and once it
--- has stopped; that it stops exactly when failure is certain; and that with a full vocabulary it never stops. Assumes nothing.
+-- has stopped; that it stops exactly when failure is certain, and never with a full vocabulary; and that what is pending fits the record.
+-- Assumes nothing.
 use mathlib.Core.Path.{_≡_, refl, sym, _∙_, ap, subst}
 use mathlib.Core.Logic.{_↔_}
 use mathlib.Core.Bool.{Bool, true, false, _||_}
 use mathlib.Core.Option.{Option, none, some}
 use mathlib.Core.List.{List, [], _∷_, _++_, append-assoc, append-nil}
-use Prim.Native.Nat.{ℕ, _+_}
+use Prim.Native.Nat.{ℕ, _+_, _≤_}
 use native.Mathlib.Omega.{arith}
 use lib.Dec.{eqb, leb, ltb}
-use lib.ListN.{length, take}
-use lib.Seq.{take-append-seam}
+use lib.ListN.{length, take, drop}
+use lib.Seq.{take-append-seam, drop-at}
 use Rattle.spec.specs.Lists.{Bytes}
 use Rattle.spec.specs.Token.{Token, joined}
 use Rattle.spec.specs.Valid.{Valid}
-use Rattle.spec.specs.Scan.{End, done, failed, Scan, scanAt, scan, runAt, run}
+use Rattle.spec.specs.Scan.{End, done, failed, Scan, scanAt, scan, Stop, waiting, stuck, runAt, run}
 use Rattle.spec.specs.Answer.{Answer, bare}
 use Rattle.spec.specs.Stream.{StreamRecord, endedPhase, stoppedPhase, Call, add, end, pieceOf, outOf, tooMany, again, callRefusal}
-use Rattle.spec.specs.Plain.{Phase, opened, stopped, ended, Plain, start, recordOf, Sure, Fails, Gains, Certain, Turns, answerFor}
+use Rattle.spec.specs.Plain.{Phase, opened, stopped, ended, Plain, start, pendingIn, recordOf, Sure, Fails, Gains, Certain, Turns, answerFor}
 use Rattle.spec.specs.Plain.{Reply, Accepts, Either, Steps, Follows, handed, BytePieces}
 use Rattle.spec.specs.Theorems.{HandsOut, WhileOpen, AfterEnd, OnceStopped, StopsWhenCertain, FullNeverStops}
 use Rattle.running.specs.Prefixes.{bytes-append}
 use Rattle.running.specs.ScanLaws.{done≢failed, round-trip, up-to-failure}
-use Rattle.running.specs.Claims.{AllFail, claim-A, sure-unique, claim-B, claim-B-place}
+use Rattle.running.specs.Claims.{AllFail, claim-A, sure-unique, stuck-fails, claim-B, claim-B-place}
+use Rattle.running.specs.RunLaws.{run-rest, rest-short}
 use Rattle.running.specs.FullLaws.{scan-full}
 
 -- ---- the ids handed out
@@ -189,3 +191,27 @@ module _ (ts : List Token) (cs : List Call) (rs : List Reply) (q : Plain) where
   full-never-stops full h v f k b e =
       let (g, d) = known-handed v f (stopped k b) e in
       done≢failed k b (sym (scan-full ts full (q .taken) (bytes-taken ts start cs rs q tt h f)) ∙ d)
+
+-- ---- what is pending
+
+-- "up to 254 held bytes"
+pending-open : (ts : List Token) → Valid ts → (T G : List ℕ) → KnownIn ts T G opened → length (drop (length (joined ts G)) T) ≤ 254
+pending-open ts v T G (s, n) = go (run ts T .stop) refl
+  where
+    go : (z : Stop) → run ts T .stop ≡ z → length (drop (length (joined ts G)) T) ≤ 254
+    go (stuck k b) e = absurd (n (stuck-fails ts T k b e))
+    go (waiting at x) e =
+        let i : G ≡ run ts T .ids = sure-unique ts T G (run ts T .ids) s (claim-A ts v T) in
+        let d : joined ts G ++ x ≡ T = ap (λ (is : List ℕ). joined ts is ++ x) i ∙ run-rest ts v T at x e .0 in
+        let p : drop (length (joined ts G)) T ≡ x =
+        ap (drop (length (joined ts G))) (sym d) ∙ drop-at (joined ts G) x (length (joined ts G)) refl in
+        rw p (rest-short ts v T at x e)
+
+pub pending-short : (ts : List Token) (cs : List Call) (rs : List Reply) (q : Plain) → Valid ts → Follows ts start cs rs q
+    → length (pendingIn ts (q .phase) (q .taken) (q .ids)) ≤ 254
+pending-short ts cs rs q v f = go (q .phase) (known ts v start cs rs q (known-start ts v) f)
+  where
+    go : (phase : Phase) → KnownIn ts (q .taken) (q .ids) phase → length (pendingIn ts phase (q .taken) (q .ids)) ≤ 254
+    go opened k = unfold pendingIn in pending-open ts v (q .taken) (q .ids) k
+    go (stopped k b) h = unfold pendingIn in omega arith
+    go ended h = unfold pendingIn in omega arith
