@@ -17,8 +17,8 @@ use Rattle.spec.specs.Valid.{Valid}
 use Rattle.spec.specs.Scan.{End, done, failed, Scan, scanAt, scan, Stop, waiting, stuck, runAt, run}
 use Rattle.spec.specs.Answer.{Answer, bare}
 use Rattle.spec.specs.Stream.{StreamRecord, endedPhase, stoppedPhase, Call, add, end, pieceOf, outOf, tooMany, again, callRefusal}
-use Rattle.spec.specs.Plain.{Phase, opened, stopped, ended, Plain, start, pendingIn, recordOf, Sure, Fails, Gains, Certain, Turns, answerFor}
-use Rattle.spec.specs.Plain.{Reply, Accepts, Either, Steps, Follows, handed, BytePieces}
+use Rattle.spec.specs.Plain.{Phase, opened, stopped, ended, Plain, start, pendingIn, recordOf, Sure, Fails}
+use Rattle.spec.specs.Plain.{Gains, Certain, Turns, answerFor, Reply, Accepts, Either, Steps, Follows, handed, BytePieces}
 use Rattle.spec.specs.Theorems.{HandsOut, WhileOpen, AfterEnd, OnceStopped, StopsWhenCertain, FullNeverStops}
 use Rattle.running.specs.Prefixes.{bytes-append}
 use Rattle.running.specs.ScanLaws.{done≢failed, round-trip, up-to-failure}
