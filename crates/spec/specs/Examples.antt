@@ -7,14 +7,19 @@ use mathlib.Core.List.{List, [], _∷_, _++_}
 use Prim.Native.Nat.{ℕ}
 use lib.ListN.{length, getD, replicate}
 use lib.IntN.{ℤ}
+use Rattle.spec.specs.Check.{andThen, given, need}
+use Rattle.spec.specs.Digits.{digits}
+use Rattle.spec.specs.Line.{lines, fields}
 use Rattle.spec.specs.Literal.{literal}
-use Rattle.spec.specs.Token.{Token}
+use Rattle.spec.specs.Token.{Token, seen}
+use Rattle.spec.specs.Trie.{nodeCount}
+use Rattle.spec.specs.Layout.{tableWords}
 use Rattle.spec.specs.Scan.{done, failed, scanAt, scan, waiting, runAt, run}
-use Rattle.spec.specs.Memory.{Memory, memoryOf}
+use Rattle.spec.specs.Memory.{Memory, memoryOf, blobBytes}
 use Rattle.spec.specs.Encode.{complete, unmatched, encoding}
 use Rattle.spec.specs.Decode.{decoding}
 use Rattle.spec.specs.Decode as decode
-use Rattle.spec.specs.Load.{Room, accepted, load, countsOf}
+use Rattle.spec.specs.Load.{Room, accepted, load, takeLines, takeLine, readLine, readFields, idRule, readToken, lengthRule, admit, lastId, finish, missing, countsOf}
 use Rattle.spec.specs.Answer.{Answer, whole}
 use Rattle.spec.specs.Stream.{Called, goesThrough, fresh, add, end}
 
@@ -37,11 +42,12 @@ vRoom : Room
 vRoom = record { nodes = 5; blob = 10; table = 512 }
 
 v-loads : load true vRoom vText ≡ accepted vv
-unfolding load vRoom
+unfolding vRoom load takeLines takeLine readLine readFields idRule readToken lengthRule admit lastId finish missing andThen given need
+    lines fields digits literal seen nodeCount blobBytes tableWords
 v-loads = refl
 
 v-counts : countsOf vv ≡ record { tokens = 5; nodes = 5; blob = 10; table = 512 }
-unfolding countsOf
+unfolding countsOf nodeCount blobBytes tableWords
 v-counts = refl
 
 -- what a load of V leaves in memory that was lent with 10 blob bytes, 512 table words and nothing past the fixed lengths
@@ -102,8 +108,8 @@ abc-scan = refl
 -- ── The running encoder ──────────────────────────────────────────────
 
 -- what the replies hand out and answer, call by call, over V's memory from a fresh stream
-abbrev seen : Called → List ℕ × Answer
-seen d = (d .ids, d .answer)
+abbrev shown : Called → List ℕ × Answer
+shown d = (d .ids, d .answer)
 
 -- Pieces ab, b, c: none, then 3, then 5; end none.
 abbrev piece-ab : Called
@@ -118,19 +124,19 @@ piece-c = goesThrough vMemory (piece-b .stream) (add (0x63 ∷ []) (replicate 2 
 abbrev ab-b-c-end : Called
 ab-b-c-end = goesThrough vMemory (piece-c .stream) (end [])
 
-ab-none : seen piece-ab ≡ ([], whole 0)
+ab-none : shown piece-ab ≡ ([], whole 0)
 unfolding goesThrough memoryOf
 ab-none = refl
 
-b-three : seen piece-b ≡ (3 ∷ [], whole 1)
+b-three : shown piece-b ≡ (3 ∷ [], whole 1)
 unfolding goesThrough memoryOf
 b-three = refl
 
-c-five : seen piece-c ≡ (5 ∷ [], whole 1)
+c-five : shown piece-c ≡ (5 ∷ [], whole 1)
 unfolding goesThrough memoryOf
 c-five = refl
 
-end-none : seen ab-b-c-end ≡ ([], whole 0)
+end-none : shown ab-b-c-end ≡ ([], whole 0)
 unfolding goesThrough memoryOf
 end-none = refl
 
@@ -141,11 +147,11 @@ piece-abc = goesThrough vMemory fresh (add (0x61 ∷ 0x62 ∷ 0x63 ∷ []) (repl
 abbrev abc-end : Called
 abc-end = goesThrough vMemory (piece-abc .stream) (end (replicate 3 0))
 
-abc-none : seen piece-abc ≡ ([], whole 0)
+abc-none : shown piece-abc ≡ ([], whole 0)
 unfolding goesThrough memoryOf
 abc-none = refl
 
-abc-ends : seen abc-end ≡ (3 ∷ [], record { number = 22; count = 1; place = 2; value = 0x63 })
+abc-ends : shown abc-end ≡ (3 ∷ [], record { number = 22; count = 1; place = 2; value = 0x63 })
 unfolding goesThrough memoryOf
 abc-ends = refl
 

@@ -35,31 +35,41 @@ tableRoom table used bases = 256 * min (table / 256) (min (used / 4) (bases / 4)
 
 -- 8 to 10, of an id and the one before it, 0 if it is the first
 unfoldable pub idRule : {A : Type 0} → ℕ → ℕ → Check A → Check A
-unfolding need
 idRule previous id rest =
     need 8 (not (eqb id 0))
     (need 9 (not (eqb id previous))
     (need 10 (not (ltb id previous))
     rest))
 
--- the token that a line states, or 3 to 15
-unfoldable pub readLine : ℕ → List ℕ → Check Token
-unfolding andThen given need fields digits idRule literal
-readLine previous line =
-    andThen (fields line) (λ f.
+-- 13 to 15, of a token and its declared length
+unfoldable pub lengthRule : ℕ → Token → Check Token
+lengthRule wanted t =
+    need 13 (not (eqb (length (t .bytes)) 0))
+    (need 14 (eqb (length (t .bytes)) wanted)
+    (need 15 (leb (length (t .bytes)) 255)
+    (pass t)))
+
+-- 11 to 15: the token of this id
+unfoldable pub readToken : Fields → ℕ → Check Token
+readToken f id =
+    given 11 (digits (2 ^ 64 - 1) (f .length)) (λ wanted.
+    given 12 (literal (f .literal)) (λ bytes.
+    lengthRule wanted (record { id = id; bytes = bytes })))
+
+-- 6 to 15
+unfoldable pub readFields : ℕ → Fields → Check Token
+readFields previous f =
     given 6 (digits 4294967295 (f .id)) (λ id.
     need 7 (leb id 65535)
     (idRule previous id
-    (given 11 (digits (2 ^ 64 - 1) (f .length)) (λ wanted.
-    given 12 (literal (f .literal)) (λ bytes.
-    need 13 (not (eqb (length bytes) 0))
-    (need 14 (eqb (length bytes) wanted)
-    (need 15 (leb (length bytes) 255)
-    (pass (record { id = id; bytes = bytes }))))))))))
+    (readToken f id)))
+
+-- the token that a line states, after one of id `previous`; or 3 to 15
+unfoldable pub readLine : ℕ → List ℕ → Check Token
+readLine previous line = andThen (fields line) (readFields previous)
 
 -- the tokens with one more, or 16 to 18
 unfoldable pub admit : Room → List Token → Token → Check (List Token)
-unfolding need seen nodeCount blobBytes
 admit room ts t =
     let more = ts ++ (t ∷ []) in
     need 16 (not (seen ts (t .bytes)))
@@ -75,7 +85,6 @@ lastId (t ∷ u ∷ ts) = lastId (u ∷ ts)
 
 -- the tokens after one more line
 unfoldable pub takeLine : Room → List Token → List ℕ → Check (List Token)
-unfolding andThen readLine admit lastId
 takeLine room ts line = andThen (readLine (lastId ts) line) (admit room ts)
 
 -- ---- the whole text
@@ -91,7 +100,6 @@ pub data Outcome : Type 0 where
 
 -- the lowest byte from b on, of n, without a one-byte token
 unfoldable pub missing : List Token → ℕ → ℕ → Option ℕ
-unfolding seen
 missing ts zero b = none
 missing ts (suc n) b = let rest = missing ts n (suc b) in cond (seen ts (b ∷ [])) rest (some b)
 
@@ -101,7 +109,6 @@ demanded false b = b
 
 -- after the lines: 19 (there is a token for each line, so no token means no lines), 20 in full mode, 21
 unfoldable pub finish : Bool → Room → List Token → Outcome
-unfolding missing tableWords
 finish partial room [] = refused 19 nowhere
 finish partial room (t ∷ ts) = elim (demanded partial (missing (t ∷ ts) 256 0)) [
     some b ↦ refused 20 (byte b)
@@ -109,7 +116,6 @@ finish partial room (t ∷ ts) = elim (demanded partial (missing (t ∷ ts) 256 
 
 -- "lines are taken one by one, counted from 1": ls from line n on, after the tokens ts
 unfoldable pub takeLines : Bool → Room → ℕ → List Token → List (List ℕ) → Outcome
-unfolding takeLine finish
 takeLines partial room n ts [] = finish partial room ts
 takeLines partial room n ts (l ∷ ls) = elim (takeLine room ts l) [
     pass more ↦ takeLines partial room (suc n) more ls
@@ -117,7 +123,6 @@ takeLines partial room n ts (l ∷ ls) = elim (takeLine room ts l) [
 
 -- What a UTF-8 text states, in partial or full mode.
 unfoldable pub load : Bool → Room → List ℕ → Outcome
-unfolding takeLines lines
 load partial room text = takeLines partial room 1 [] (lines text)
 
 -- ---- what a load answers and leaves
@@ -130,7 +135,6 @@ pub record Counts : Type 0 where
   pub table : ℕ
 
 unfoldable pub countsOf : List Token → Counts
-unfolding nodeCount blobBytes tableWords
 countsOf ts = record { tokens = length ts; nodes = nodeCount ts; blob = length (blobBytes ts); table = tableWords ts }
 
 abbrev pub noCounts : Counts
@@ -151,14 +155,12 @@ turnedDown number place m = record { answer = record { number = number; place = 
 
 -- "After 3 to 21 the vocabulary memory is emptied"
 unfoldable pub settled : Memory → Outcome → LoadResult
-unfolding memoryOf emptied countsOf
 settled m (accepted ts) = record { answer = record { number = 0; place = nowhere; counts = countsOf ts }; memory = memoryOf ts m }
 settled m (refused number place) = turnedDown number place (emptied m)
 
 -- A load of text into m with room for so many nodes and table words. "After 1 and 2 nothing has changed."
 -- Number 2's offset k is loose: see `LoadsTo`.
 unfoldable pub loadOn : ℕ → Bool → ℕ → ℕ → Memory → List ℕ → LoadResult
-unfolding tooShort wellFormed settled load
 loadOn k partial nodes table m text = elim (tooShort m) [
     true ↦ turnedDown 1 nowhere m
   | false ↦ elim (wellFormed text) [

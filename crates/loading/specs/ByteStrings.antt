@@ -1,0 +1,219 @@
+-- The parts of a byte string are byte strings: lines, fields, and what a literal stands for. Assumes nothing.
+use mathlib.Core.Path.{_≡_, refl, sym, ap, _∙_, subst}
+use mathlib.Core.Logic.{_⊎_, inl, inr}
+use mathlib.Core.Bool.{Bool, true, false, not, _&&_, _||_, cond, false≢true}
+use mathlib.Core.Option.{Option, none, some, bind}
+use mathlib.Core.List.{List, [], _∷_, _++_, List·Memᴰ, List·Memᴰ·head, List·Memᴰ·tail}
+use Prim.Native.Nat.{ℕ, zero, suc, _+_, _-_, _*_, _/_, _%_, _^_, _≤_, _<_}
+use native.Mathlib.Omega.{arith}
+use native.Mathlib.Nat.{mul-le-mul-right, mul-assoc, pow-succ'}
+use lib.Dec.{eqb, leb, ltb}
+use lib.ListN.{length, take, drop, getD}
+use borrow.Author.Tests.{leb-true, leb-false, ltb-true}
+use Rattle.spec.specs.Lists.{all, Bytes}
+use Rattle.spec.specs.Check.{Check, pass, refuse, given, need}
+use Rattle.spec.specs.Utf8.{Range, _to_, within, utf8Of, blank}
+use Rattle.spec.specs.Digits.{hexDigit, hexAfter, hexRun}
+use Rattle.spec.specs.Line.{lf, cr, lessCR, withLF, lastLine, linesAfter, lines, Fields, firstSpace, lastSpace, parted, placed, fields}
+use Rattle.spec.specs.Literal.{Piece, letters, lookUp, byteOrPoint, pointOnly, escapeOf, escape, plain, Read, bad, put, piece, closed, pieceAt, inside, quoted, readWith, whole, read, literal}
+use Rattle.laws.specs.Tests.{and-l, and-r}
+use Rattle.loading.specs.Checks.{need-pass, given-pass}
+
+-- every list of ls is a byte string
+abbrev pub AllBytes : List (List ℕ) → Type 0
+AllBytes [] = Unit {0}
+AllBytes (l ∷ ls) = Bytes l × AllBytes ls
+
+pub bytes-append : (s t : List ℕ) → Bytes s → Bytes t → Bytes (s ++ t)
+bytes-append [] t a b = b
+bytes-append (x ∷ s) t a b = (a .0, bytes-append s t (a .1) b)
+
+pub bytes-take : (n : ℕ) (s : List ℕ) → Bytes s → Bytes (take n s)
+bytes-take zero s a = tt
+bytes-take (suc n) [] a = tt
+bytes-take (suc n) (x ∷ s) a = (a .0, bytes-take n s (a .1))
+
+pub bytes-drop : (n : ℕ) (s : List ℕ) → Bytes s → Bytes (drop n s)
+bytes-drop zero s a = a
+bytes-drop (suc n) [] a = tt
+bytes-drop (suc n) (x ∷ s) a = bytes-drop n s (a .1)
+
+-- a choice of two byte strings
+pub bytes-cond : (c : Bool) (s t : List ℕ) → (c ≡ true → Bytes s) → (c ≡ false → Bytes t) → Bytes (cond c s t)
+bytes-cond true s t a b = a refl
+bytes-cond false s t a b = b refl
+
+-- ---- lines
+
+less-bytes : (l : List ℕ) → Bytes l → Bytes (lessCR l)
+unfolding lessCR
+less-bytes l h = bytes-cond (eqb (getD l (length l - 1) 0) cr) (take (length l - 1) l) l (λ e. bytes-take (length l - 1) l h) (λ e. h)
+
+last-bytes : (l : List ℕ) → Bytes l → AllBytes (lastLine l)
+last-bytes [] h = tt
+last-bytes (b ∷ l) h = (less-bytes (b ∷ l) h, tt)
+
+after-bytes : (l s : List ℕ) → Bytes l → Bytes s → AllBytes (linesAfter l s)
+unfolding linesAfter
+after-bytes l [] h k = last-bytes l h
+after-bytes l (b ∷ s) h k = go (eqb b lf) (after-bytes [] s tt (k .1)) (after-bytes (l ++ (b ∷ [])) s (bytes-append l (b ∷ []) h (k .0, tt)) (k .1))
+  where
+    go : (c : Bool) → AllBytes (linesAfter [] s) → AllBytes (linesAfter (l ++ (b ∷ [])) s) → AllBytes (cond c (withLF l ∷ linesAfter [] s) (linesAfter (l ++ (b ∷ [])) s))
+    go true p q = (less-bytes (lessCR l) (less-bytes l h), p)
+    go false p q = q
+
+-- the lines of a byte string are byte strings
+pub lines-bytes : (text : List ℕ) → Bytes text → AllBytes (lines text)
+unfolding lines
+lines-bytes text h = after-bytes [] text tt h
+
+-- ---- fields
+
+-- the literal of a line is a part of it
+pub fields-bytes : (line : List ℕ) (f : Fields) → fields line ≡ pass f → Bytes line → Bytes (f .literal)
+unfolding fields
+fields-bytes line f e h =
+    let (a, e₁) = need-pass 3 (not (blank line)) (given 4 (firstSpace line) (λ first. given 4 (lastSpace line) (λ last. need 5 (placed first last line) (pass (parted first last line))))) f e in
+    let (first, p, e₂) = given-pass 4 (firstSpace line) (λ first. given 4 (lastSpace line) (λ last. need 5 (placed first last line) (pass (parted first last line)))) f e₁ in
+    let (last, q, e₃) = given-pass 4 (lastSpace line) (λ last. need 5 (placed first last line) (pass (parted first last line))) f e₂ in
+    let (t, e₄) = need-pass 5 (placed first last line) (pass (parted first last line)) f e₃ in
+    let z : parted first last line ≡ f = cc in
+    subst (λ (g : Fields). Bytes (g .literal)) z (bytes-take (last - suc first) (drop (suc first) line) (bytes-drop (suc first) line h))
+
+-- ---- literals
+
+-- a code point's bytes are bytes
+pub utf8-bytes : (c : ℕ) → Bytes (utf8Of c)
+unfolding utf8Of
+utf8-bytes c =
+    bytes-cond (leb c 0x7F) (c ∷ []) _ (λ e. let h = leb-true c 0x7F e in (omega arith, tt)) (λ e.
+    bytes-cond (leb c 0x7FF) ((0xC0 + c / 64) ∷ (0x80 + c % 64) ∷ []) _ (λ e. let h = leb-true c 0x7FF e in (omega arith, (omega arith, tt))) (λ e.
+    bytes-cond (within (0xD800 to 0xDFFF) c) [] _ (λ e. tt) (λ e.
+    bytes-cond (leb c 0xFFFF) ((0xE0 + c / 4096) ∷ (0x80 + c / 64 % 64) ∷ (0x80 + c % 64) ∷ []) _ (λ e. let h = leb-true c 0xFFFF e in (omega arith, (omega arith, (omega arith, tt)))) (λ e.
+    bytes-cond (leb c 0x10FFFF) ((0xF0 + c / 262144) ∷ (0x80 + c / 4096 % 64) ∷ (0x80 + c / 64 % 64) ∷ (0x80 + c % 64) ∷ []) [] (λ e. let h = leb-true c 0x10FFFF e in (omega arith, (omega arith, (omega arith, (omega arith, tt))))) (λ e. tt)))))
+
+none≢some : {A : Type 0} (a : A) → none ≡ some a → ⊥
+none≢some a e = let z : _≡_ {A = ℕ} 0 1 = cc in omega arith
+
+bind-some : {A B : Type 0} (o : Option A) (k : A → Option B) (b : B) → bind o k ≡ some b → (a : A) × (o ≡ some a) × (k a ≡ some b)
+unfolding bind
+bind-some none k b e = absurd (none≢some b e)
+bind-some (some a) k b e = (a, refl, e)
+
+-- a number within a range lies between its ends
+between : (low high b : ℕ) → within (low to high) b ≡ true → (low ≤ b) × (b ≤ high)
+between low high b e = (leb-true low b (and-l (leb low b) (leb b high) e), leb-true b high (and-r (leb low b) (leb b high) e))
+
+digit-16 : (b d : ℕ) → hexDigit b ≡ some d → d < 16
+unfolding hexDigit
+digit-16 b d e =
+    pick (within (0x30 to 0x39) b) (b - 0x30) _ (λ t. let h = between 0x30 0x39 b t in omega arith) (
+    pick (within (0x61 to 0x66) b) (b - 0x61 + 10) _ (λ t. let h = between 0x61 0x66 b t in omega arith) (
+    pick (within (0x41 to 0x46) b) (b - 0x41 + 10) none (λ t. let h = between 0x41 0x46 b t in omega arith) (λ e. absurd (none≢some d e)))) e
+  where
+    pick : (c : Bool) (v : ℕ) (o : Option ℕ) → (c ≡ true → v < 16) → (o ≡ some d → d < 16) → cond c (some v) o ≡ some d → d < 16
+    pick true v o a k e = let z : v ≡ d = cc in let w = a refl in omega arith
+    pick false v o a k e = k e
+
+-- the number of digits so far, times 16 for each that follows, bounds the number read
+hex-bound : (n v w : ℕ) (s : List ℕ) → hexAfter v n s ≡ some w → w < (v + 1) * 16 ^ n
+unfolding hexAfter
+hex-bound zero v w s e = let z : v ≡ w = cc in omega arith
+hex-bound (suc n) v w [] e = absurd (none≢some w e)
+hex-bound (suc n) v w (b ∷ s) e =
+    let (d, p, q) = bind-some (hexDigit b) (λ d. hexAfter (v * 16 + d) n s) w e in
+    let h = digit-16 b d p in
+    let k = hex-bound n (v * 16 + d) w s q in
+    let m : (v * 16 + d + 1) * 16 ^ n ≤ (v + 1) * 16 * 16 ^ n = mul-le-mul-right (16 ^ n) (omega arith) in
+    let r : (v + 1) * 16 * 16 ^ n ≡ (v + 1) * 16 ^ (suc n) = mul-assoc (v + 1) 16 (16 ^ n) ∙ ap (λ (x : ℕ). (v + 1) * x) (sym (pow-succ' 16 n)) in
+    omega arith
+
+escape-of : (n : ℕ) (o : Option (List ℕ)) (p : Piece) → ((bs : List ℕ) → o ≡ some bs → Bytes bs) → escapeOf n o ≡ some p → Bytes (p .bytes)
+escape-of n none p h e = absurd (none≢some p e)
+escape-of n (some bs) p h e = let z : record { bytes = bs; more = n } ≡ p = cc in subst (λ (q : Piece). Bytes (q .bytes)) z (h bs refl)
+
+-- a table whose bytes are bytes, by a test over all of it
+letter-bytes : (ps : List (ℕ × ℕ)) (c : ℕ) (bs : List ℕ) → all (λ (p : ℕ × ℕ). ltb (p .1) 256) ps ≡ true → lookUp ps c ≡ some bs → Bytes bs
+unfolding lookUp all
+letter-bytes [] c bs h e = absurd (none≢some bs e)
+letter-bytes (p ∷ ps) c bs h e = go (eqb c (p .0)) e (λ k. letter-bytes ps c bs (and-r (ltb (p .1) 256) _ h) k)
+  where
+    go : (t : Bool) → cond t (some (p .1 ∷ [])) (lookUp ps c) ≡ some bs → (lookUp ps c ≡ some bs → Bytes bs) → Bytes bs
+    go true e k = let z : p .1 ∷ [] ≡ bs = cc in subst Bytes z (ltb-true (p .1) 256 (and-l (ltb (p .1) 256) _ h), tt)
+    go false e k = k e
+
+pieces-bytes : (inB : Bool) (s : List ℕ) (p : Piece) → escape inB s ≡ some p → Bytes (p .bytes)
+unfolding escape all
+pieces-bytes inB [] p e = absurd (none≢some p e)
+pieces-bytes inB (c ∷ s) p e = x-first (eqb c 0x78) (eqb c 0x75) e
+  where
+    two : (bs : List ℕ) → bind (hexRun 2 s) (byteOrPoint inB) ≡ some bs → Bytes bs
+    two bs e = let (v, q, r) = bind-some (hexRun 2 s) (byteOrPoint inB) bs e in of inB v (hex-bound 2 0 v s q) r
+      where
+        of : (i : Bool) (v : ℕ) → v < (0 + 1) * 16 ^ 2 → byteOrPoint i v ≡ some bs → Bytes bs
+        of true v h e = let z : v ∷ [] ≡ bs = cc in subst Bytes z (omega arith, tt)
+        of false v h e = let z : utf8Of v ≡ bs = cc in subst Bytes z (utf8-bytes v)
+
+    four : (bs : List ℕ) → bind (hexRun 4 s) (pointOnly inB) ≡ some bs → Bytes bs
+    four bs e = let (v, q, r) = bind-some (hexRun 4 s) (pointOnly inB) bs e in of inB v r
+      where
+        of : (i : Bool) (v : ℕ) → pointOnly i v ≡ some bs → Bytes bs
+        of true v e = absurd (none≢some bs e)
+        of false v e = at (within (0xD800 to 0xDFFF) v) e
+          where
+            at : (t : Bool) → cond t none (some (utf8Of v)) ≡ some bs → Bytes bs
+            at true e = absurd (none≢some bs e)
+            at false e = let z : utf8Of v ≡ bs = cc in subst Bytes z (utf8-bytes v)
+
+    x-first : (x u : Bool) → cond x (escapeOf 3 (bind (hexRun 2 s) (byteOrPoint inB))) (cond u (escapeOf 5 (bind (hexRun 4 s) (pointOnly inB))) (escapeOf 1 (lookUp letters c))) ≡ some p → Bytes (p .bytes)
+    x-first true u e = escape-of 3 (bind (hexRun 2 s) (byteOrPoint inB)) p two e
+    x-first false true e = escape-of 5 (bind (hexRun 4 s) (pointOnly inB)) p four e
+    x-first false false e = escape-of 1 (lookUp letters c) p (λ bs k. letter-bytes letters c bs refl k) e
+
+plain-bytes : (inB : Bool) (quote b : ℕ) (p : Piece) → b < 256 → plain inB quote b ≡ some p → Bytes (p .bytes)
+plain-bytes inB quote b p h e = go (eqb b quote || (inB && leb 0x80 b)) e
+  where
+    go : (t : Bool) → cond t none (some (record { bytes = b ∷ []; more = 0 })) ≡ some p → Bytes (p .bytes)
+    go true e = absurd (none≢some p e)
+    go false e = let z : record { bytes = b ∷ []; more = 0 } ≡ p = cc in subst (λ (q : Piece). Bytes (q .bytes)) z (h, tt)
+
+inside-bytes : (inB : Bool) (quote : ℕ) (s : List ℕ) (k : ℕ) → Bytes s → Bytes (inside escape inB quote s k .bytes)
+unfolding inside
+inside-bytes inB quote [] k h = tt
+inside-bytes inB quote (b ∷ s) (suc k) h = inside-bytes inB quote s k (h .1)
+inside-bytes inB quote (b ∷ s) zero h = go (pieceAt escape inB quote b s) (λ p e. one (eqb b 0x5C) p e) (λ k. inside-bytes inB quote s k (h .1))
+  where
+    one : (t : Bool) (p : Piece) → cond t (escape inB s) (plain inB quote b) ≡ some p → Bytes (p .bytes)
+    one true p e = pieces-bytes inB s p e
+    one false p e = plain-bytes inB quote b p (h .0) e
+
+    go : (o : Option Piece) → ((p : Piece) → o ≡ some p → Bytes (p .bytes)) → ((k : ℕ) → Bytes (inside escape inB quote s k .bytes))
+        → Bytes (piece o (λ k. inside escape inB quote s k) .bytes)
+    go none a r = tt
+    go (some p) a r = bytes-append (p .bytes) (inside escape inB quote s (p .more) .bytes) (a p refl) (r (p .more))
+
+quoted-bytes : (inB : Bool) (s : List ℕ) → Bytes s → Bytes (quoted escape inB s .bytes)
+unfolding quoted
+quoted-bytes inB s h = go (closed s)
+  where
+    go : (t : Bool) → Bytes (cond t (inside escape inB (getD s 0 0) (take (length s - 2) (drop 1 s)) 0) bad .bytes)
+    go true = inside-bytes inB (getD s 0 0) (take (length s - 2) (drop 1 s)) 0 (bytes-take (length s - 2) (drop 1 s) (bytes-drop 1 s h))
+    go false = tt
+
+read-bytes : (s : List ℕ) → Bytes s → Bytes (read s .bytes)
+unfolding read readWith
+read-bytes [] h = tt
+read-bytes (b ∷ s) h = go (eqb b 0x62)
+  where
+    go : (t : Bool) → Bytes (cond t (quoted escape true s) (quoted escape false (b ∷ s)) .bytes)
+    go true = quoted-bytes true s (h .1)
+    go false = quoted-bytes false (b ∷ s) h
+
+-- what a literal stands for is a byte string
+pub literal-bytes : (s bs : List ℕ) → literal s ≡ some bs → Bytes s → Bytes bs
+unfolding literal
+literal-bytes s bs e h = go (read s .good) e
+  where
+    go : (t : Bool) → cond t (some (read s .bytes)) none ≡ some bs → Bytes bs
+    go true e = let z : read s .bytes ≡ bs = cc in subst Bytes z (read-bytes s h)
+    go false e = absurd (none≢some bs e)

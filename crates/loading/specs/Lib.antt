@@ -1,0 +1,4 @@
+-- What holds of every accepted text.
+pub mod Checks
+pub mod ByteStrings
+pub mod Accepted
