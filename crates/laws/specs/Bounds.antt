@@ -3,7 +3,7 @@
 use mathlib.Core.Path.{_≡_, refl, sym, ap, subst}
 use mathlib.Core.Logic.{_⊎_, inl, inr}
 use mathlib.Core.Bool.{Bool, true, false, cond}
-use mathlib.Core.List.{List, [], _∷_, _++_, List·Memᴰ, List·Memᴰ·head, List·Memᴰ·tail}
+use mathlib.Core.List.{List, [], _∷_, _++_, List·Memᴰ as Mem, List·Memᴰ·head as here, List·Memᴰ·tail as there}
 use Prim.Native.Nat.{ℕ, zero, suc, _+_, _*_, _/_, _%_, _^_, _-_, _≤_, _<_}
 use native.Mathlib.Omega.{arith}
 use lib.Bits.{bitXor}
@@ -23,28 +23,28 @@ use Rattle.laws.specs.Xor.{xor-block-of}
 use Rattle.laws.specs.First.{from-most}
 use Rattle.laws.specs.Placed.{top-le, first-small}
 use Rattle.laws.specs.Slots.{Owner, owner}
-use Rattle.laws.specs.Step.{Holds, base-cases}
+use Rattle.laws.specs.Step.{Holds, Unheld, base-cases}
 use Rattle.laws.specs.Fill.{order-fresh}
 
 -- ---- tokens and bytes
 
-rising-count : (ts : List Token) (low bound : ℕ) → Rising low ts → ((t : Token) → List·Memᴰ t ts → t .id < bound) → low < bound
+rising-count : (ts : List Token) (low bound : ℕ) → Rising low ts → ((t : Token) → Mem t ts → t .id < bound) → low < bound
     → low + length ts < bound
 rising-count [] low bound r h l = omega arith
 rising-count (t ∷ ts) low bound r h l =
-    let k = rising-count ts (t .id) bound (r .1) (λ u m. h u (List·Memᴰ·tail m)) (h t (List·Memᴰ·head refl)) in
+    let k = rising-count ts (t .id) bound (r .1) (λ u m. h u (there m)) (h t (here refl)) in
     let a = r .0 in
     omega arith
 
 pub tokens-few : (ts : List Token) → Valid ts → length ts ≤ 65535
 tokens-few ts v = let k = rising-count ts 0 65536 (v .rising) (v .id-fits) (lit< tt) in omega arith
 
-each-length : {A B : Type 0} (f : A → List B) (n : ℕ) (l : List A) → ((x : A) → List·Memᴰ x l → length (f x) ≤ n) → length (each f l) ≤ length l * n
+each-length : {A B : Type 0} (f : A → List B) (n : ℕ) (l : List A) → ((x : A) → Mem x l → length (f x) ≤ n) → length (each f l) ≤ length l * n
 unfolding each
 each-length f n [] h = omega arith
 each-length f n (x ∷ l) h =
-    let a = h x (List·Memᴰ·head refl) in
-    let b = each-length f n l (λ y m. h y (List·Memᴰ·tail m)) in
+    let a = h x (here refl) in
+    let b = each-length f n l (λ y m. h y (there m)) in
     let c = length-append (f x) (each f l) in
     let d : suc (length l) * n ≡ length l * n + n = omega arith in
     omega arith
@@ -129,7 +129,7 @@ module _ (ts : List Token) (v : Valid ts) where
   unfolding tableWords words
   base-lt p = go (base-cases (puts ts) p)
     where
-      go : Holds (puts ts) p ⊎ ((baseOf (puts ts) p ≡ 0) × ((x : Put) → List·Memᴰ x (puts ts) → x .node ≡ p → ⊥)) → baseOf (puts ts) p < 256 * (1 + top (puts ts))
+      go : Holds (puts ts) p ⊎ Unheld (puts ts) p → baseOf (puts ts) p < 256 * (1 + top (puts ts))
       go (inl h) = let a = top-le (h .mem) in let b = h .base-eq in omega arith
       go (inr h) = let b = h .0 in omega arith
 

@@ -1,8 +1,8 @@
 -- A node's children as a chain through an array: first child, then next sibling. What a new child changes. Assumes nothing.
 use mathlib.Core.Path.{_≡_, refl, sym, ap, ap₂, _∙_, subst}
-use mathlib.Core.Logic.{_⊎_, inl, inr}
-use mathlib.Core.Bool.{Bool, true, false, cond}
-use mathlib.Core.List.{List, [], _∷_, _++_, map, append-nil, List·Memᴰ, List·Memᴰ·head, List·Memᴰ·tail, Memᴰ·append-right, Memᴰ·of-map, append-cancel-left, head-eq-of-cons-eq}
+use mathlib.Core.Logic.{inl, inr}
+use mathlib.Core.Bool.{Bool, cond}
+use mathlib.Core.List.{List, [], _∷_, _++_, map, append-nil, append-cancel-left, head-eq-of-cons-eq, List·Memᴰ as Mem, List·Memᴰ·head as here, List·Memᴰ·tail as there, Memᴰ·append-right as mem-right, Memᴰ·of-map as mem-of-map}
 use Prim.Native.Nat.{ℕ, suc, _≤_, _<_}
 use native.Mathlib.Omega.{arith}
 use lib.Dec.{eqb}
@@ -10,7 +10,7 @@ use lib.ListN.{length, getD, set}
 use lib.Seq.{getD-set-same, getD-set-other}
 use borrow.Author.Tests.{eqb-true, eq-eqb}
 use Rattle.spec.specs.Trie.{labels}
-use Rattle.laws.specs.Tests.{either, no-true}
+use Rattle.laws.specs.Tests.{Tested, either, no-true}
 use Rattle.laws.specs.Nodes.{label-node}
 use Rattle.laws.specs.Numbered.{place-of, number, at-place, place-stays, place-new, Fresh, fresh-map, labels-fresh}
 use Rattle.laws.specs.Grow.{labels-snoc, label-self, snoc-inj, label-other}
@@ -20,7 +20,7 @@ unfoldable pub kids : List (List ℕ) → List ℕ → List ℕ
 unfolding labels number
 kids ps p = map (λ l. number ps (p ++ (l ∷ []))) (labels ps p)
 
-pub number-inj : (ps : List (List ℕ)) {p q : List ℕ} → List·Memᴰ p ps → List·Memᴰ q ps → number ps p ≡ number ps q → p ≡ q
+pub number-inj : (ps : List (List ℕ)) {p q : List ℕ} → Mem p ps → Mem q ps → number ps p ≡ number ps q → p ≡ q
 unfolding number
 number-inj ps {p} {q} m n e = let k : place-of ps p ≡ place-of ps q = omega arith in sym (at-place m) ∙ ap (λ (i : ℕ). getD ps i []) k ∙ at-place n
 
@@ -28,11 +28,11 @@ map-append : {A B : Type 0} (f : A → B) (s t : List A) → map f (s ++ t) ≡ 
 map-append f [] t = refl
 map-append f (x ∷ s) t = ap (λ (l : List _). f x ∷ l) (map-append f s t)
 
-map-same : {A B : Type 0} (f g : A → B) (l : List A) → ((x : A) → List·Memᴰ x l → f x ≡ g x) → map f l ≡ map g l
+map-same : {A B : Type 0} (f g : A → B) (l : List A) → ((x : A) → Mem x l → f x ≡ g x) → map f l ≡ map g l
 map-same f g [] h = refl
-map-same {A} {B} f g (x ∷ l) h = ap₂ (λ (y : B) (m : List B). y ∷ m) (h x (List·Memᴰ·head refl)) (map-same f g l (λ y m. h y (List·Memᴰ·tail m)))
+map-same {A} {B} f g (x ∷ l) h = ap₂ (λ (y : B) (m : List B). y ∷ m) (h x (here refl)) (map-same f g l (λ y m. h y (there m)))
 
-module _ (ps : List (List ℕ)) (q : List ℕ) (b : ℕ) (new : List·Memᴰ (q ++ (b ∷ [])) ps → ⊥) where
+module _ (ps : List (List ℕ)) (q : List ℕ) (b : ℕ) (new : Mem (q ++ (b ∷ [])) ps → ⊥) where
   stays : (p : List ℕ) → map (λ l. number (ps ++ ((q ++ (b ∷ [])) ∷ [])) (p ++ (l ∷ []))) (labels ps p) ≡ kids ps p
   unfolding kids
   stays p = map-same _ _ (labels ps p) (λ l m. ap suc (place-stays ((q ++ (b ∷ [])) ∷ []) (label-node ps p l m)))
@@ -51,11 +51,11 @@ module _ (ps : List (List ℕ)) (q : List ℕ) (b : ℕ) (new : List·Memᴰ (q 
       ∙ stays p
 
 -- a child has one parent
-pub one-parent : (ps : List (List ℕ)) (p q : List ℕ) (c : ℕ) → List·Memᴰ c (kids ps p) → List·Memᴰ c (kids ps q) → p ≡ q
+pub one-parent : (ps : List (List ℕ)) (p q : List ℕ) (c : ℕ) → Mem c (kids ps p) → Mem c (kids ps q) → p ≡ q
 unfolding kids
 one-parent ps p q c m n =
-    let a = Memᴰ·of-map (λ (l : ℕ). number ps (p ++ (l ∷ []))) (labels ps p) m in
-    let b = Memᴰ·of-map (λ (l : ℕ). number ps (q ++ (l ∷ []))) (labels ps q) n in
+    let a = mem-of-map (λ (l : ℕ). number ps (p ++ (l ∷ []))) (labels ps p) m in
+    let b = mem-of-map (λ (l : ℕ). number ps (q ++ (l ∷ []))) (labels ps q) n in
     snoc-inj p q (a .0) (b .0) (number-inj ps (label-node ps p (a .0) (a .1)) (label-node ps q (b .0) (b .1)) (a .2 ∙ sym (b .2)))
 
 last-inj : (p : List ℕ) (a b : ℕ) → p ++ (a ∷ []) ≡ p ++ (b ∷ []) → a ≡ b
@@ -72,13 +72,13 @@ Chain nx h [] = h ≡ 0
 Chain nx h (c ∷ cs) = (h ≡ c) × (1 ≤ c) × Chain nx (getD nx c 0) cs
 
 -- a store at a node that is not in the chain
-pub chain-frame : (nx : List ℕ) (t v : ℕ) (l : List ℕ) (h : ℕ) → (List·Memᴰ t l → ⊥) → Chain nx h l → Chain (set nx t v) h l
+pub chain-frame : (nx : List ℕ) (t v : ℕ) (l : List ℕ) (h : ℕ) → (Mem t l → ⊥) → Chain nx h l → Chain (set nx t v) h l
 chain-frame nx t v [] h n k = k
 chain-frame nx t v (c ∷ cs) h n k = (
   k .0,
   k .1,
-  subst (λ (z : ℕ). Chain (set nx t v) z cs) (sym (getD-set-other nx t c v 0 (λ e. n (List·Memᴰ·head (sym e)))))
-      (chain-frame nx t v cs (getD nx c 0) (λ m. n (List·Memᴰ·tail m)) (k .2)),
+  subst (λ (z : ℕ). Chain (set nx t v) z cs) (sym (getD-set-other nx t c v 0 (λ e. n (here (sym e)))))
+      (chain-frame nx t v cs (getD nx c 0) (λ m. n (there m)) (k .2)),
 )
 
 -- the first child
@@ -92,7 +92,7 @@ chain-more nx t c [] h ht hc ne z f k = (k .0, k .1, (getD-set-same nx t c 0 ht,
 chain-more nx t c (x ∷ m) h ht hc ne z f k = (
   k .0,
   k .1,
-  subst (λ (y : ℕ). Chain (set nx t c) y ((m ++ (t ∷ [])) ++ (c ∷ []))) (sym (getD-set-other nx t x c 0 (λ e. f .0 (Memᴰ·append-right m (List·Memᴰ·head e)))))
+  subst (λ (y : ℕ). Chain (set nx t c) y ((m ++ (t ∷ [])) ++ (c ∷ []))) (sym (getD-set-other nx t x c 0 (λ e. f .0 (mem-right m (here e)))))
       (chain-more nx t c m (getD nx x 0) ht hc ne z (f .1) (k .2)),
 )
 
@@ -101,18 +101,18 @@ unfoldable pub seek : (ℕ → ℕ) → ℕ → List ℕ → ℕ
 seek lab b [] = 0
 seek lab b (c ∷ cs) = let r = seek lab b cs in cond (eqb (lab c) b) c r
 
-pub seek-hit : (lab : ℕ → ℕ) (b : ℕ) {c : ℕ} {l : List ℕ} → List·Memᴰ c l → lab c ≡ b → ((x y : ℕ) → List·Memᴰ x l → List·Memᴰ y l → lab x ≡ lab y → x ≡ y) → seek lab b l ≡ c
+pub seek-hit : (lab : ℕ → ℕ) (b : ℕ) {c : ℕ} {l : List ℕ} → Mem c l → lab c ≡ b → ((x y : ℕ) → Mem x l → Mem y l → lab x ≡ lab y → x ≡ y) → seek lab b l ≡ c
 unfolding seek
-seek-hit lab b {c} (List·Memᴰ·head {x = y} {xs = l} e) h i = ap (λ (d : Bool). cond d y (seek lab b l)) (eq-eqb (lab y) b (ap lab (sym e) ∙ h)) ∙ sym e
-seek-hit lab b {c} (List·Memᴰ·tail {x = y} {xs = l} m) h i = go (either (eqb (lab y) b)) (seek-hit lab b m h (λ u v p q. i u v (List·Memᴰ·tail p) (List·Memᴰ·tail q)))
+seek-hit lab b {c} (here {x = y} {xs = l} e) h i = ap (λ (d : Bool). cond d y (seek lab b l)) (eq-eqb (lab y) b (ap lab (sym e) ∙ h)) ∙ sym e
+seek-hit lab b {c} (there {x = y} {xs = l} m) h i = go (either (eqb (lab y) b)) (seek-hit lab b m h (λ u v p q. i u v (there p) (there q)))
   where
-    go : (eqb (lab y) b ≡ true) ⊎ (eqb (lab y) b ≡ false) → seek lab b l ≡ c → cond (eqb (lab y) b) y (seek lab b l) ≡ c
-    go (inl e) r = ap (λ (d : Bool). cond d y (seek lab b l)) e ∙ i y c (List·Memᴰ·head refl) (List·Memᴰ·tail m) (eqb-true (lab y) b e ∙ sym h)
+    go : Tested (eqb (lab y) b) → seek lab b l ≡ c → cond (eqb (lab y) b) y (seek lab b l) ≡ c
+    go (inl e) r = ap (λ (d : Bool). cond d y (seek lab b l)) e ∙ i y c (here refl) (there m) (eqb-true (lab y) b e ∙ sym h)
     go (inr e) r = ap (λ (d : Bool). cond d y (seek lab b l)) e ∙ r
 
-pub seek-miss : (lab : ℕ → ℕ) (b : ℕ) (l : List ℕ) → ((c : ℕ) → List·Memᴰ c l → lab c ≡ b → ⊥) → seek lab b l ≡ 0
+pub seek-miss : (lab : ℕ → ℕ) (b : ℕ) (l : List ℕ) → ((c : ℕ) → Mem c l → lab c ≡ b → ⊥) → seek lab b l ≡ 0
 unfolding seek
 seek-miss lab b [] h = refl
 seek-miss lab b (c ∷ l) h =
-    ap (λ (d : Bool). cond d c (seek lab b l)) (no-true (eqb (lab c) b) (λ e. h c (List·Memᴰ·head refl) (eqb-true (lab c) b e)))
-    ∙ seek-miss lab b l (λ x m. h x (List·Memᴰ·tail m))
+    ap (λ (d : Bool). cond d c (seek lab b l)) (no-true (eqb (lab c) b) (λ e. h c (here refl) (eqb-true (lab c) b e)))
+    ∙ seek-miss lab b l (λ x m. h x (there m))

@@ -2,7 +2,7 @@
 use mathlib.Core.Path.{_≡_, refl, sym, ap, ap₂, _∙_}
 use mathlib.Core.Logic.{_⊎_, inl, inr}
 use mathlib.Core.Bool.{Bool, true, false, not, _&&_, cond}
-use mathlib.Core.List.{List, [], _∷_, _++_, append-nil, append-assoc, List·Memᴰ, List·Memᴰ·head, List·Memᴰ·tail, Memᴰ·append-right}
+use mathlib.Core.List.{List, [], _∷_, _++_, append-nil, append-assoc, List·Memᴰ as Mem, List·Memᴰ·head as here, List·Memᴰ·tail as there, Memᴰ·append-right as mem-right}
 use Prim.Native.Nat.{ℕ, zero, suc, _+_, _*_, _≤_, _<_}
 use native.Mathlib.Omega.{arith}
 use lib.Dec.{eqb, lit<, ltb}
@@ -12,7 +12,7 @@ use borrow.Author.Tests.{eqb-true, eqb-false, eq-eqb, ltb-true, not-true, ne-eqb
 use Rattle.spec.specs.Lists.{any, has, Bytes}
 use Rattle.spec.specs.Token.{Token, properPrefix, undecided}
 use Rattle.spec.specs.Trie.{nodes, labels}
-use Rattle.spec.specs.Layout.{Put, baseOf, puts, wordOf}
+use Rattle.spec.specs.Layout.{baseOf, puts, wordOf}
 use Rattle.spec.specs.Memory.{Memory, Loaded}
 use Rattle.spec.specs.Match.{Walk, noWalk, walkOn, undecidedOn}
 use Rattle.spec.specs.Theorems.{Deciding}
@@ -21,20 +21,20 @@ use Rattle.running.specs.Longest.{proper-iff}
 use Rattle.laws.specs.Tests.{clash, and-l, and-r, iff-eq, any-find, any-mem, has-mem, mem-has, mem-pos}
 use Rattle.laws.specs.Tokens.{byte-at}
 use Rattle.laws.specs.Nodes.{Cut, node-is, is-node, label-node, node-label}
-use Rattle.laws.specs.Step.{Holds, base-cases, placed, held-child, base-pos, word-pos}
+use Rattle.laws.specs.Step.{Holds, Unheld, base-cases, placed, held-child, base-pos, word-pos}
 use Rattle.laws.specs.Reads.{root-at, root-length}
 use Rattle.laws.specs.Walk.{cut-all, Reached, node-long, root-word, walk-cases}
 
 -- ---- one byte: its row of roots
 
-index : {A : Type 0} {x : A} {l : List A} (d : A) → List·Memᴰ x l → (j : ℕ) × (j < length l) × (getD l j d ≡ x)
-index d (List·Memᴰ·head e) = (0, omega arith, sym e)
-index d (List·Memᴰ·tail m) = let (j, h, e) = index d m in (suc j, omega arith, e)
+index : {A : Type 0} {x : A} {l : List A} (d : A) → Mem x l → (j : ℕ) × (j < length l) × (getD l j d ≡ x)
+index d (here e) = (0, omega arith, sym e)
+index d (there m) = let (j, h, e) = index d m in (suc j, omega arith, e)
 
-member : {A : Type 0} (l : List A) (j : ℕ) (d : A) → j < length l → List·Memᴰ (getD l j d) l
+member : {A : Type 0} (l : List A) (j : ℕ) (d : A) → j < length l → Mem (getD l j d) l
 member [] j d h = absurd (omega arith)
-member (x ∷ l) zero d h = List·Memᴰ·head refl
-member (x ∷ l) (suc j) d h = List·Memᴰ·tail (member l j d (omega arith))
+member (x ∷ l) zero d h = here refl
+member (x ∷ l) (suc j) d h = there (member l j d (omega arith))
 
 module _ {m : Memory} {ts : List Token} (L : Loaded m ts) where
   roots-long : 65536 ≤ length (m .roots)
@@ -56,18 +56,18 @@ module _ {m : Memory} {ts : List Token} (L : Loaded m ts) where
       omega (arith, roots-long)
 
   -- s is a proper prefix of a token where s and one more byte are a node
-  node-proper : (s : List ℕ) (c : ℕ) → List·Memᴰ (s ++ (c ∷ [])) (nodes ts) → properPrefix ts s ≡ true
+  node-proper : (s : List ℕ) (c : ℕ) → Mem (s ++ (c ∷ [])) (nodes ts) → properPrefix ts s ≡ true
   node-proper s c k =
       let n = node-is ts k in
       proper-iff ts s .1 (n .tok, n .mem, (c, n .cut .rest, n .cut .split ∙ append-assoc s (c ∷ []) (n .cut .rest)))
 
   -- and conversely, where s has a byte
   proper-node : (s : List ℕ) → 1 ≤ length s → properPrefix ts s ≡ true
-      → (t : Token) × List·Memᴰ t ts × ((c : ℕ) × (c < 256) × List·Memᴰ (s ++ (c ∷ [])) (nodes ts) × (length s < length (t .bytes)))
+      → (t : Token) × Mem t ts × ((c : ℕ) × (c < 256) × Mem (s ++ (c ∷ [])) (nodes ts) × (length s < length (t .bytes)))
   proper-node s h e =
       let (t, k, (c, y, q)) = proper-iff ts s .0 e in
       let len : length (s ++ (c ∷ [])) ≡ length s + 1 = length-append s (c ∷ []) in
-      let hc : c < 256 = byte-at (rw q at (L .valid .bytes t k)) (Memᴰ·append-right s (List·Memᴰ·head refl)) in (
+      let hc : c < 256 = byte-at (rw q at (L .valid .bytes t k)) (mem-right s (here refl)) in (
         t,
         k,
         (
@@ -105,7 +105,7 @@ module _ {m : Memory} {ts : List Token} (L : Loaded m ts) where
   -- ---- two or more bytes: where the walk ends
 
   -- the beginnings of a node are nodes
-  node-cut : {p q : List ℕ} → Cut p q → List·Memᴰ q (nodes ts) → List·Memᴰ p (nodes ts)
+  node-cut : {p q : List ℕ} → Cut p q → Mem q (nodes ts) → Mem p (nodes ts)
   node-cut {p} c m =
       let n = node-is ts m in
       is-node ts (record {
@@ -115,14 +115,14 @@ module _ {m : Memory} {ts : List Token} (L : Loaded m ts) where
       })
 
   -- a node whose base is not 0 has a child
-  base-child : (p : List ℕ) → 1 ≤ baseOf (puts ts) p → (c : ℕ) × List·Memᴰ (p ++ (c ∷ [])) (nodes ts)
+  base-child : (p : List ℕ) → 1 ≤ baseOf (puts ts) p → (c : ℕ) × Mem (p ++ (c ∷ [])) (nodes ts)
   base-child p h = go (base-cases (puts ts) p)
     where
-      some-label : (ls : List ℕ) → 1 ≤ length ls → (c : ℕ) × List·Memᴰ c ls
+      some-label : (ls : List ℕ) → 1 ≤ length ls → (c : ℕ) × Mem c ls
       some-label [] h = absurd (omega arith)
-      some-label (c ∷ ls) h = (c, List·Memᴰ·head refl)
+      some-label (c ∷ ls) h = (c, here refl)
 
-      go : Holds (puts ts) p ⊎ ((baseOf (puts ts) p ≡ 0) × ((x : Put) → List·Memᴰ x (puts ts) → x .node ≡ p → ⊥)) → (c : ℕ) × List·Memᴰ (p ++ (c ∷ [])) (nodes ts)
+      go : Holds (puts ts) p ⊎ Unheld (puts ts) p → (c : ℕ) × Mem (p ++ (c ∷ [])) (nodes ts)
       go (inl k) = let (c, m) = some-label (labels (nodes ts) p) (held-child ts (L .valid) p k) in (c, label-node (nodes ts) p c m)
       go (inr k) = let z = k .0 in absurd (omega arith)
 
@@ -140,7 +140,7 @@ module _ {m : Memory} {ts : List Token} (L : Loaded m ts) where
     open-proper : K .used ≡ length S → 1 ≤ K .base → length S < 255 → properPrefix ts S ≡ true
     open-proper all-used base few = go (walk-cases L a b s small)
       where
-        go : ((K ≡ noWalk) × (List·Memᴰ (a ∷ b ∷ []) (nodes ts) → ⊥)) ⊎ Reached ts (a ∷ b ∷ take 253 s) K → properPrefix ts S ≡ true
+        go : ((K ≡ noWalk) × (Mem (a ∷ b ∷ []) (nodes ts) → ⊥)) ⊎ Reached ts (a ∷ b ∷ take 253 s) K → properPrefix ts S ≡ true
         go (inl (e, lacks)) = let u = ap (λ (k : Walk). k .used) e in absurd (omega arith)
         go (inr w) =
             let u = w .stands .used-eq in
@@ -156,11 +156,11 @@ module _ {m : Memory} {ts : List Token} (L : Loaded m ts) where
         let l = L .valid .short t k in
         go c n (omega arith) (walk-cases L a b s small)
       where
-        start : (c : ℕ) → List·Memᴰ (S ++ (c ∷ [])) (nodes ts) → List·Memᴰ S (nodes ts)
+        start : (c : ℕ) → Mem (S ++ (c ∷ [])) (nodes ts) → Mem S (nodes ts)
         start c n = node-cut (record { rest = c ∷ []; split = refl; two = omega arith }) n
 
-        go : (c : ℕ) → List·Memᴰ (S ++ (c ∷ [])) (nodes ts) → length S < 255
-            → ((K ≡ noWalk) × (List·Memᴰ (a ∷ b ∷ []) (nodes ts) → ⊥)) ⊎ Reached ts (a ∷ b ∷ take 253 s) K → (K .used ≡ length S) × (1 ≤ K .base) × (length S < 255)
+        go : (c : ℕ) → Mem (S ++ (c ∷ [])) (nodes ts) → length S < 255
+            → ((K ≡ noWalk) × (Mem (a ∷ b ∷ []) (nodes ts) → ⊥)) ⊎ Reached ts (a ∷ b ∷ take 253 s) K → (K .used ≡ length S) × (1 ≤ K .base) × (length S < 255)
         go c n few (inl (e, lacks)) = absurd (lacks (node-cut (record { rest = s; split = refl; two = lit< tt }) (start c n)))
         go c n few (inr w) = at (w .rest) refl
           where

@@ -1,10 +1,10 @@
 -- On loaded memory an encoding is the scan, cut where the output is full: the theorems `encoding-is-scan` and `encoding-is-cut`.
 -- Assumes nothing.
 use mathlib.Core.Path.{_≡_, refl, sym, ap, _∙_}
-use mathlib.Core.Logic.{_⊎_, inl, inr}
-use mathlib.Core.Bool.{true, false, cond}
+use mathlib.Core.Logic.{inl, inr}
+use mathlib.Core.Bool.{cond}
 use mathlib.Core.Option.{Option, none, some}
-use mathlib.Core.List.{List, [], _∷_, List·Memᴰ}
+use mathlib.Core.List.{List, [], _∷_, List·Memᴰ as Mem}
 use Prim.Native.Nat.{ℕ, zero, suc, _+_, _≤_, _<_, pred}
 use native.Mathlib.Nat.{zero-add}
 use native.Mathlib.Omega.{arith}
@@ -22,7 +22,7 @@ use Rattle.spec.specs.Theorems.{matchOf, encodeEnd, EncodingIsScan, EncodingIsC
 use Rattle.running.specs.Longest.{longest-iff}
 use Rattle.running.specs.Joined.{joined-cons, joined-nil}
 use Rattle.running.specs.ScanLaws.{nowhere, scan-none, scan-some}
-use Rattle.laws.specs.Tests.{either}
+use Rattle.laws.specs.Tests.{Tested, either}
 use Rattle.laws.specs.Matching.{matching}
 
 -- ---- the equations of `encodeAt`
@@ -59,11 +59,11 @@ cut-full ts pos n r h = rw (lt-leb (length (r .ids)) n h)
 
 module _ {m : Memory} {ts : List Token} (L : Loaded m ts) where
   -- one token more
-  cut-more : (t : Token) → List·Memᴰ t ts → (pos n : ℕ) (r : Scan)
+  cut-more : (t : Token) → Mem t ts → (pos n : ℕ) (r : Scan)
       → encoded (t .id) (cut ts (suc pos + pred (length (t .bytes))) n r) ≡ cut ts (pos + 0) (suc n) (scanned (t .id) r)
   cut-more t k pos n r = go (either (leb (length (r .ids)) n))
     where
-      go : (leb (length (r .ids)) n ≡ true) ⊎ (leb (length (r .ids)) n ≡ false)
+      go : Tested (leb (length (r .ids)) n)
           → encoded (t .id) (cut ts (suc pos + pred (length (t .bytes))) n r) ≡ cut ts (pos + 0) (suc n) (scanned (t .id) r)
       go (inl e) =
           let h = leb-true (length (r .ids)) n e in

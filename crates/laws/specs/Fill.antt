@@ -1,8 +1,7 @@
 -- No node is placed twice; and the writes of each child's word at its slot, in any order, make the table. Assumes nothing.
 use mathlib.Core.Path.{_≡_, refl, sym, ap, _∙_, subst}
 use mathlib.Core.Logic.{_⊎_, inl, inr}
-use mathlib.Core.Bool.{true, false}
-use mathlib.Core.List.{List, [], _∷_, _++_, map, List·Memᴰ, List·Memᴰ·head, List·Memᴰ·tail, List·Memᴰ·not-nil, List·Memᴰ·cases-cons, List·Memᴰ·append-cases, Memᴰ·cast, Memᴰ·map, Memᴰ·of-map}
+use mathlib.Core.List.{List, [], _∷_, _++_, map, List·Memᴰ as Mem, List·Memᴰ·head as here, List·Memᴰ·tail as there, List·Memᴰ·cases-cons as cases-cons, List·Memᴰ·not-nil as not-nil, List·Memᴰ·append-cases as append-cases, Memᴰ·cast as mem-cast, Memᴰ·of-map as mem-of-map, Memᴰ·map as mem-map}
 use Prim.Native.Nat.{ℕ, zero, suc, _+_, _/_, _≤_, _<_}
 use native.Mathlib.Omega.{arith}
 use lib.Bits.{bitXor}
@@ -16,31 +15,31 @@ use Rattle.spec.specs.Trie.{nodes, labels, withCount, falling, order}
 use Rattle.spec.specs.Layout.{Put, words, put, place, baseOf, slotWord, puts, wordOf, tableAt, tableWords}
 use Rattle.spec.specs.Valid.{Valid}
 use Rattle.spec.specs.Memory.{tableList}
-use Rattle.laws.specs.Tests.{either, each-mem, each-find, keep-find, mem-pos}
+use Rattle.laws.specs.Tests.{Tested, either, each-mem, each-find, keep-find, mem-pos}
 use Rattle.laws.specs.Nodes.{label-node, labels-small, order-find}
 use Rattle.laws.specs.Numbered.{Fresh, nodes-fresh, keep-fresh}
 use Rattle.laws.specs.Xor.{xor-block-of}
 use Rattle.laws.specs.Placed.{top-le}
 use Rattle.laws.specs.Slots.{Owner, owner}
-use Rattle.laws.specs.Step.{put-find, Holds, base-cases, placed, step-word}
+use Rattle.laws.specs.Step.{put-find, Holds, Unheld, base-cases, placed, step-word}
 use Rattle.laws.specs.Listed.{up-length, up-at}
 
 -- ---- no node twice
 
-fresh-append : {A : Type 0} (s t : List A) → Fresh s → Fresh t → ((x : A) → List·Memᴰ x s → List·Memᴰ x t → ⊥) → Fresh (s ++ t)
+fresh-append : {A : Type 0} (s t : List A) → Fresh s → Fresh t → ((x : A) → Mem x s → Mem x t → ⊥) → Fresh (s ++ t)
 fresh-append [] t f g h = g
-fresh-append (x ∷ s) t f g h = ((λ m. go (List·Memᴰ·append-cases s m)), fresh-append s t (f .1) g (λ y m. h y (List·Memᴰ·tail m)))
+fresh-append (x ∷ s) t f g h = ((λ m. go (append-cases s m)), fresh-append s t (f .1) g (λ y m. h y (there m)))
   where
-    go : List·Memᴰ x s ⊎ List·Memᴰ x t → ⊥
+    go : Mem x s ⊎ Mem x t → ⊥
     go (inl m) = f .0 m
-    go (inr m) = h x (List·Memᴰ·head refl) m
+    go (inr m) = h x (here refl) m
 
-falling-le : (ps : List (List ℕ)) (n : ℕ) {p : List ℕ} → List·Memᴰ p (falling ps n) → length (labels ps p) ≤ n
+falling-le : (ps : List (List ℕ)) (n : ℕ) {p : List ℕ} → Mem p (falling ps n) → length (labels ps p) ≤ n
 unfolding falling withCount
-falling-le ps zero m = absurd (List·Memᴰ·not-nil m)
-falling-le ps (suc n) {p} m = go (List·Memᴰ·append-cases (withCount ps (suc n)) m) (falling-le ps n)
+falling-le ps zero m = absurd (not-nil m)
+falling-le ps (suc n) {p} m = go (append-cases (withCount ps (suc n)) m) (falling-le ps n)
   where
-    go : List·Memᴰ p (withCount ps (suc n)) ⊎ List·Memᴰ p (falling ps n) → (List·Memᴰ p (falling ps n) → length (labels ps p) ≤ n) → length (labels ps p) ≤ suc n
+    go : Mem p (withCount ps (suc n)) ⊎ Mem p (falling ps n) → (Mem p (falling ps n) → length (labels ps p) ≤ n) → length (labels ps p) ≤ suc n
     go (inl k) r = let e = eqb-true (length (labels ps p)) (suc n) ((keep-find (λ (q : List ℕ). eqb (length (labels ps q)) (suc n)) ps k) .1) in omega arith
     go (inr k) r = let h = r k in omega arith
 
@@ -49,7 +48,7 @@ unfolding falling withCount
 falling-fresh ps zero f = tt
 falling-fresh ps (suc n) f = fresh-append (withCount ps (suc n)) (falling ps n) (keep-fresh _ ps f) (falling-fresh ps n f) apart
   where
-    apart : (p : List ℕ) → List·Memᴰ p (withCount ps (suc n)) → List·Memᴰ p (falling ps n) → ⊥
+    apart : (p : List ℕ) → Mem p (withCount ps (suc n)) → Mem p (falling ps n) → ⊥
     apart p m k = let e = eqb-true (length (labels ps p)) (suc n) ((keep-find (λ (q : List ℕ). eqb (length (labels ps q)) (suc n)) ps m) .1) in let h = falling-le ps n k in omega arith
 
 pub order-fresh : (ps : List (List ℕ)) → Fresh ps → Fresh (order ps)
@@ -57,31 +56,31 @@ unfolding order
 order-fresh ps f = falling-fresh ps (length ps) f
 
 fresh-fold : (L : List ℕ → List ℕ) (ps : List (List ℕ)) (xs : List Put) → Fresh ps → Fresh (map (λ (x : Put). x .node) xs)
-    → ((p : List ℕ) → List·Memᴰ p (map (λ (x : Put). x .node) xs) → List·Memᴰ p ps → ⊥) → Fresh (map (λ (x : Put). x .node) (fold (put L) xs ps))
+    → ((p : List ℕ) → Mem p (map (λ (x : Put). x .node) xs) → Mem p ps → ⊥) → Fresh (map (λ (x : Put). x .node) (fold (put L) xs ps))
 unfolding fold put
 fresh-fold L [] xs f g h = g
-fresh-fold L (p ∷ ps) xs f g h = fresh-fold L ps (put L xs p) (f .1) ((λ m. h p m (List·Memᴰ·head refl)), g) apart
+fresh-fold L (p ∷ ps) xs f g h = fresh-fold L ps (put L xs p) (f .1) ((λ m. h p m (here refl)), g) apart
   where
-    apart : (q : List ℕ) → List·Memᴰ q (p ∷ map (λ (x : Put). x .node) xs) → List·Memᴰ q ps → ⊥
-    apart q m k = go (List·Memᴰ·cases-cons m)
+    apart : (q : List ℕ) → Mem q (p ∷ map (λ (x : Put). x .node) xs) → Mem q ps → ⊥
+    apart q m k = go (cases-cons m)
       where
-        go : (q ≡ p) ⊎ List·Memᴰ q (map (λ (x : Put). x .node) xs) → ⊥
-        go (inl e) = f .0 (Memᴰ·cast (sym e) k)
-        go (inr n) = h q n (List·Memᴰ·tail k)
+        go : (q ≡ p) ⊎ Mem q (map (λ (x : Put). x .node) xs) → ⊥
+        go (inl e) = f .0 (mem-cast (sym e) k)
+        go (inr n) = h q n (there k)
 
-pub unique : {A B : Type 0} (f : A → B) (xs : List A) → Fresh (map f xs) → {x y : A} → List·Memᴰ x xs → List·Memᴰ y xs → f x ≡ f y → x ≡ y
-unique f [] h m n e = absurd (List·Memᴰ·not-nil m)
-unique {A} f (z ∷ xs) h {x} {y} m n e = go (List·Memᴰ·cases-cons m) (List·Memᴰ·cases-cons n) (λ a b. unique f xs (h .1) a b e)
+pub unique : {A B : Type 0} (f : A → B) (xs : List A) → Fresh (map f xs) → {x y : A} → Mem x xs → Mem y xs → f x ≡ f y → x ≡ y
+unique f [] h m n e = absurd (not-nil m)
+unique {A} f (z ∷ xs) h {x} {y} m n e = go (cases-cons m) (cases-cons n) (λ a b. unique f xs (h .1) a b e)
   where
-    go : (x ≡ z) ⊎ List·Memᴰ x xs → (y ≡ z) ⊎ List·Memᴰ y xs → (List·Memᴰ x xs → List·Memᴰ y xs → x ≡ y) → x ≡ y
+    go : (x ≡ z) ⊎ Mem x xs → (y ≡ z) ⊎ Mem y xs → (Mem x xs → Mem y xs → x ≡ y) → x ≡ y
     go (inl p) (inl q) r = p ∙ sym q
-    go (inl p) (inr q) r = absurd (h .0 (Memᴰ·cast (ap f (sym p) ∙ e) (Memᴰ·map f q)))
-    go (inr p) (inl q) r = absurd (h .0 (Memᴰ·cast (ap f (sym q) ∙ sym e) (Memᴰ·map f p)))
+    go (inl p) (inr q) r = absurd (h .0 (mem-cast (ap f (sym p) ∙ e) (mem-map f q)))
+    go (inr p) (inl q) r = absurd (h .0 (mem-cast (ap f (sym q) ∙ sym e) (mem-map f p)))
     go (inr p) (inr q) r = r p q
 
 pub puts-fresh : (ts : List Token) → Fresh (map (λ (x : Put). x .node) (puts ts))
 unfolding puts place
-puts-fresh ts = fresh-fold (labels (nodes ts)) (order (nodes ts)) [] (order-fresh (nodes ts) (nodes-fresh ts)) tt (λ p m k. List·Memᴰ·not-nil m)
+puts-fresh ts = fresh-fold (labels (nodes ts)) (order (nodes ts)) [] (order-fresh (nodes ts) (nodes-fresh ts)) tt (λ p m k. not-nil m)
 
 -- ---- writes
 
@@ -106,33 +105,33 @@ module _ (F : ℕ → ℕ) where
   unfolding write
   one-write w t i v h c = go (either (eqb (w .at) i)) c
     where
-      go : (eqb (w .at) i ≡ true) ⊎ (eqb (w .at) i ≡ false) → (getD t i 0 ≡ F i) ⊎ (w .at ≡ i) → getD (set t (w .at) (w .val)) i 0 ≡ F i
+      go : Tested (eqb (w .at) i) → (getD t i 0 ≡ F i) ⊎ (w .at ≡ i) → getD (set t (w .at) (w .val)) i 0 ≡ F i
       go (inl e) c = subst (λ (z : ℕ). getD (set t (w .at) (w .val)) z 0 ≡ F z) (eqb-true (w .at) i e) (getD-set-same t (w .at) (w .val) 0 h ∙ v)
       go (inr e) (inl k) = getD-set-other t (w .at) i (w .val) 0 (λ q. eqb-false (w .at) i e (sym q)) ∙ k
       go (inr e) (inr k) = absurd (eqb-false (w .at) i e k)
 
-  pub after : (ws : List Write) (t : List ℕ) (i : ℕ) → ((w : Write) → List·Memᴰ w ws → w .val ≡ F (w .at)) → ((w : Write) → List·Memᴰ w ws → w .at < length t)
-      → (getD t i 0 ≡ F i) ⊎ ((w : Write) × List·Memᴰ w ws × (w .at ≡ i)) → getD (fold write t ws) i 0 ≡ F i
+  pub after : (ws : List Write) (t : List ℕ) (i : ℕ) → ((w : Write) → Mem w ws → w .val ≡ F (w .at)) → ((w : Write) → Mem w ws → w .at < length t)
+      → (getD t i 0 ≡ F i) ⊎ ((w : Write) × Mem w ws × (w .at ≡ i)) → getD (fold write t ws) i 0 ≡ F i
   unfolding fold
   after [] t i v h (inl k) = k
-  after [] t i v h (inr k) = absurd (List·Memᴰ·not-nil (k .1))
-  after (w ∷ ws) t i v h c = after ws (write t w) i (λ u m. v u (List·Memᴰ·tail m)) inside (go c)
+  after [] t i v h (inr k) = absurd (not-nil (k .1))
+  after (w ∷ ws) t i v h c = after ws (write t w) i (λ u m. v u (there m)) inside (go c)
     where
       same-len : length (write t w) ≡ length t
       same-len = length-writes (w ∷ []) t
 
-      inside : (u : Write) → List·Memᴰ u ws → u .at < length (write t w)
-      inside u m = let a = h u (List·Memᴰ·tail m) in omega (arith, same-len)
+      inside : (u : Write) → Mem u ws → u .at < length (write t w)
+      inside u m = let a = h u (there m) in omega (arith, same-len)
 
-      here : (getD t i 0 ≡ F i) ⊎ (w .at ≡ i) → getD (write t w) i 0 ≡ F i
-      here d = one-write w t i (v w (List·Memᴰ·head refl)) (h w (List·Memᴰ·head refl)) d
+      at-once : (getD t i 0 ≡ F i) ⊎ (w .at ≡ i) → getD (write t w) i 0 ≡ F i
+      at-once d = one-write w t i (v w (here refl)) (h w (here refl)) d
 
-      go : (getD t i 0 ≡ F i) ⊎ ((u : Write) × List·Memᴰ u (w ∷ ws) × (u .at ≡ i)) → (getD (write t w) i 0 ≡ F i) ⊎ ((u : Write) × List·Memᴰ u ws × (u .at ≡ i))
-      go (inl k) = inl (here (inl k))
-      go (inr k) = pick (List·Memᴰ·cases-cons (k .1))
+      go : (getD t i 0 ≡ F i) ⊎ ((u : Write) × Mem u (w ∷ ws) × (u .at ≡ i)) → (getD (write t w) i 0 ≡ F i) ⊎ ((u : Write) × Mem u ws × (u .at ≡ i))
+      go (inl k) = inl (at-once (inl k))
+      go (inr k) = pick (cases-cons (k .1))
         where
-          pick : (k .0 ≡ w) ⊎ List·Memᴰ (k .0) ws → (getD (write t w) i 0 ≡ F i) ⊎ ((u : Write) × List·Memᴰ u ws × (u .at ≡ i))
-          pick (inl e) = inl (here (inr (ap (λ (u : Write). u .at) (sym e) ∙ k .2)))
+          pick : (k .0 ≡ w) ⊎ Mem (k .0) ws → (getD (write t w) i 0 ≡ F i) ⊎ ((u : Write) × Mem u ws × (u .at ≡ i))
+          pick (inl e) = inl (at-once (inr (ap (λ (u : Write). u .at) (sym e) ∙ k .2)))
           pick (inr m) = inr (k .0, m, k .2)
 
 -- ---- the table's writes: each node, in order, each of its labels
@@ -147,14 +146,14 @@ module _ (ts : List Token) where
   writes = each (λ p. map (childWrite p) (labels (nodes ts) p)) (nodes ts)
 
   module _ (v : Valid ts) where
-    write-of : (w : Write) → List·Memᴰ w writes → (p : List ℕ) × List·Memᴰ p (nodes ts) × ((l : ℕ) × List·Memᴰ l (labels (nodes ts) p) × (childWrite p l ≡ w))
+    write-of : (w : Write) → Mem w writes → (p : List ℕ) × Mem p (nodes ts) × ((l : ℕ) × Mem l (labels (nodes ts) p) × (childWrite p l ≡ w))
     unfolding writes
     write-of w m =
         let a = each-find (λ (p : List ℕ). map (childWrite p) (labels (nodes ts) p)) (nodes ts) m in
-        let b = Memᴰ·of-map (childWrite (a .0)) (labels (nodes ts) (a .0)) (a .2) in
+        let b = mem-of-map (childWrite (a .0)) (labels (nodes ts) (a .0)) (a .2) in
         (a .0, a .1, (b .0, b .1, b .2))
 
-    right : (w : Write) → List·Memᴰ w writes → w .val ≡ tableAt ts (w .at)
+    right : (w : Write) → Mem w writes → w .val ≡ tableAt ts (w .at)
     unfolding childWrite
     right w m =
         let r = write-of w m in
@@ -163,7 +162,7 @@ module _ (ts : List Token) where
         subst (λ (z : Write). z .val ≡ tableAt ts (z .at)) (r .2 .2)
         (sym (step-word ts v (r .0) (r .1) l (labels-small ts v (r .0) l k) (label-node (nodes ts) (r .0) l k)))
 
-    in-table : (w : Write) → List·Memᴰ w writes → w .at < tableWords ts
+    in-table : (w : Write) → Mem w writes → w .at < tableWords ts
     unfolding childWrite tableWords words
     in-table w m =
         let r = write-of w m in
@@ -177,31 +176,31 @@ module _ (ts : List Token) where
         omega arith
 
     -- a slot's owner wrote it
-    written : (i : ℕ) → Owner (labels (nodes ts)) (wordOf ts) (puts ts) i → (w : Write) × List·Memᴰ w writes × (w .at ≡ i)
+    written : (i : ℕ) → Owner (labels (nodes ts)) (wordOf ts) (puts ts) i → (w : Write) × Mem w writes × (w .at ≡ i)
     unfolding writes childWrite
     written i o = (
       childWrite p (o .lab),
-      each-mem (λ (q : List ℕ). map (childWrite q) (labels (nodes ts) q)) (in-nodes (put-find (labels (nodes ts)) (order (nodes ts)) [] own-mem)) (Memᴰ·map (childWrite p) (o .child)),
+      each-mem (λ (q : List ℕ). map (childWrite q) (labels (nodes ts) q)) (in-nodes (put-find (labels (nodes ts)) (order (nodes ts)) [] own-mem)) (mem-map (childWrite p) (o .child)),
       ap (λ (z : ℕ). bitXor z (o .lab)) own-base ∙ o .at,
     )
       where
         p : List ℕ
         p = o .own .node
 
-        own-mem : List·Memᴰ (o .own) (fold (put (labels (nodes ts))) [] (order (nodes ts)))
+        own-mem : Mem (o .own) (fold (put (labels (nodes ts))) [] (order (nodes ts)))
         own-mem = placed-list (o .mem)
           where
-            placed-list : List·Memᴰ (o .own) (puts ts) → List·Memᴰ (o .own) (fold (put (labels (nodes ts))) [] (order (nodes ts)))
+            placed-list : Mem (o .own) (puts ts) → Mem (o .own) (fold (put (labels (nodes ts))) [] (order (nodes ts)))
             placed-list m = m
 
-        in-nodes : List·Memᴰ (o .own) [] ⊎ List·Memᴰ p (order (nodes ts)) → List·Memᴰ p (nodes ts)
-        in-nodes (inl k) = absurd (List·Memᴰ·not-nil k)
+        in-nodes : Mem (o .own) [] ⊎ Mem p (order (nodes ts)) → Mem p (nodes ts)
+        in-nodes (inl k) = absurd (not-nil k)
         in-nodes (inr k) = (order-find (nodes ts) k) .0
 
         own-base : baseOf (puts ts) p ≡ o .own .base
         own-base = go (base-cases (puts ts) p)
           where
-            go : Holds (puts ts) p ⊎ ((baseOf (puts ts) p ≡ 0) × ((x : Put) → List·Memᴰ x (puts ts) → x .node ≡ p → ⊥)) → baseOf (puts ts) p ≡ o .own .base
+            go : Holds (puts ts) p ⊎ Unheld (puts ts) p → baseOf (puts ts) p ≡ o .own .base
             go (inl h) = h .base-eq ∙ ap (λ (x : Put). x .base) (unique (λ (x : Put). x .node) (puts ts) (puts-fresh ts) (h .mem) (o .mem) (h .node-eq))
             go (inr h) = absurd (h .1 (o .own) (o .mem) refl)
 
@@ -224,7 +223,7 @@ module _ (ts : List Token) where
             after (tableAt ts) writes Z i right (λ w m. let a = in-table w m in omega arith) (go (owner (labels (nodes ts)) (wordOf ts) (puts ts) i) hi)
             ∙ ap (tableAt ts) z ∙ sym (up-at (tableAt ts) n 0 i 0 hi)
           where
-            go : (slotWord (labels (nodes ts)) (wordOf ts) (puts ts) i ≡ 0) ⊎ Owner (labels (nodes ts)) (wordOf ts) (puts ts) i → i < n → (getD Z i 0 ≡ tableAt ts i) ⊎ ((w : Write) × List·Memᴰ w writes × (w .at ≡ i))
+            go : (slotWord (labels (nodes ts)) (wordOf ts) (puts ts) i ≡ 0) ⊎ Owner (labels (nodes ts)) (wordOf ts) (puts ts) i → i < n → (getD Z i 0 ≡ tableAt ts i) ⊎ ((w : Write) × Mem w writes × (w .at ≡ i))
             go (inl e) hi = inl (getD-replicate n i 0 0 hi ∙ sym (to-zero e))
               where
                 to-zero : slotWord (labels (nodes ts)) (wordOf ts) (puts ts) i ≡ 0 → tableAt ts i ≡ 0

@@ -1,7 +1,7 @@
 -- The smallest number that passes a test, and how a search for it may go. Assumes nothing.
 -- ---- the search finds the smallest
 use mathlib.Core.Path.{_≡_, refl, sym, ap, ap₂, _∙_}
-use mathlib.Core.Logic.{_⊎_, inl, inr}
+use mathlib.Core.Logic.{inl, inr}
 use mathlib.Core.Bool.{Bool, true, false, cond}
 use Prim.Native.Nat.{ℕ, zero, suc, _+_, _-_, _≤_, _<_}
 use native.Mathlib.Nat.{add-zero}
@@ -9,7 +9,7 @@ use native.Mathlib.Omega.{arith}
 use lib.Dec.{eqb}
 use borrow.Author.Tests.{eqb-true, eqb-false}
 use Rattle.spec.specs.Layout.{firstFrom}
-use Rattle.laws.specs.Tests.{either}
+use Rattle.laws.specs.Tests.{Tested, either}
 
 pub first-passes : (f : ℕ → Bool) (n s : ℕ) → f (s + n) ≡ true → f (firstFrom f n s) ≡ true
 unfolding firstFrom
@@ -29,7 +29,7 @@ least f (suc n) s t h k = go (f s) refl k (least f n (suc s) t)
     go true p q r = absurd (omega arith)
     go false p q r = at (either (eqb s t))
       where
-        at : (eqb s t ≡ true) ⊎ (eqb s t ≡ false) → f t ≡ false
+        at : Tested (eqb s t) → f t ≡ false
         at (inl e) = ap f (sym (eqb-true s t e)) ∙ p
         at (inr e) = let ne = eqb-false s t e in r (omega (arith, ne)) q
 
@@ -80,8 +80,8 @@ pub first-is : (f : ℕ → Bool) (n s r : ℕ) → s ≤ r → r ≤ s + n → 
 first-is f n s r a b e h =
     let p : n ≡ (r - s) + (n - (r - s)) = omega arith in
     let q : s + (r - s) ≡ r = omega arith in
-    ap (λ (z : ℕ). firstFrom f z s) p ∙ skip f (n - (r - s)) s (r - s) (λ t c d. h t c (omega arith)) ∙ ap (firstFrom f (n - (r - s))) q ∙ here (n - (r - s))
+    ap (λ (z : ℕ). firstFrom f z s) p ∙ skip f (n - (r - s)) s (r - s) (λ t c d. h t c (omega arith)) ∙ ap (firstFrom f (n - (r - s))) q ∙ passes (n - (r - s))
   where
-    here : (k : ℕ) → firstFrom f k r ≡ r
-    here zero = unfold firstFrom in refl
-    here (suc k) = unfold firstFrom in ap (λ (c : Bool). cond c r (firstFrom f k (suc r))) e
+    passes : (k : ℕ) → firstFrom f k r ≡ r
+    passes zero = unfold firstFrom in refl
+    passes (suc k) = unfold firstFrom in ap (λ (c : Bool). cond c r (firstFrom f k (suc r))) e

@@ -2,7 +2,7 @@
 use mathlib.Core.Path.{_≡_, refl, sym, ap, _∙_}
 use mathlib.Core.Logic.{_⊎_, inl, inr}
 use mathlib.Core.Bool.{Bool, true, false, cond}
-use mathlib.Core.List.{List, [], _∷_, _++_, append-nil, append-assoc, List·Memᴰ, List·Memᴰ·head, List·Memᴰ·tail}
+use mathlib.Core.List.{List, [], _∷_, _++_, append-nil, append-assoc, List·Memᴰ as Mem, List·Memᴰ·head as here, List·Memᴰ·tail as there}
 use Prim.Native.Nat.{ℕ, _+_, _≤_}
 use native.Mathlib.Omega.{arith}
 use lib.Dec.{eqb}
@@ -65,13 +65,13 @@ unfolding place fold
 place-snoc L ps p = fold-append (put L) [] ps (p ∷ [])
 
 -- an id more, where the bytes are new
-pub id-snoc : (ts : List Token) (t : Token) (p : List ℕ) → ((u : Token) → List·Memᴰ u ts → 1 ≤ u .id)
+pub id-snoc : (ts : List Token) (t : Token) (p : List ℕ) → ((u : Token) → Mem u ts → 1 ≤ u .id)
     → idOf (ts ++ (t ∷ [])) p ≡ cond (eqb (idOf ts p) 0) (cond (same p (t .bytes)) (t .id) 0) (idOf ts p)
 unfolding idOf
 id-snoc [] t p low = refl
-id-snoc (u ∷ ts) t p low = go (same p (u .bytes)) (id-snoc ts t p (λ w m. low w (List·Memᴰ·tail m)))
+id-snoc (u ∷ ts) t p low = go (same p (u .bytes)) (id-snoc ts t p (λ w m. low w (there m)))
   where
     go : (c : Bool) → idOf (ts ++ (t ∷ [])) p ≡ cond (eqb (idOf ts p) 0) (cond (same p (t .bytes)) (t .id) 0) (idOf ts p)
         → cond c (u .id) (idOf (ts ++ (t ∷ [])) p) ≡ cond (eqb (cond c (u .id) (idOf ts p)) 0) (cond (same p (t .bytes)) (t .id) 0) (cond c (u .id) (idOf ts p))
-    go true r = sym (ap (λ (c : Bool). cond c (cond (same p (t .bytes)) (t .id) 0) (u .id)) (ne-eqb (u .id) 0 (λ z. let k = low u (List·Memᴰ·head refl) in omega arith)))
+    go true r = sym (ap (λ (c : Bool). cond c (cond (same p (t .bytes)) (t .id) 0) (u .id)) (ne-eqb (u .id) 0 (λ z. let k = low u (here refl) in omega arith)))
     go false r = r

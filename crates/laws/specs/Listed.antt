@@ -1,7 +1,6 @@
 -- Lists that a function of the index makes, and the table as one. Assumes nothing.
 use mathlib.Core.Path.{_≡_, refl, sym, ap, _∙_}
 use mathlib.Core.Logic.{_⊎_, inl, inr}
-use mathlib.Core.Bool.{true, false}
 use mathlib.Core.List.{List}
 use Prim.Native.Nat.{ℕ, zero, suc, _+_, _/_, _≤_, _<_}
 use native.Mathlib.Nat.{add-zero}
@@ -15,7 +14,7 @@ use Rattle.spec.specs.Trie.{nodes, labels}
 use Rattle.spec.specs.Layout.{words, slotWord, puts, wordOf, tableAt, tableWords}
 use Rattle.spec.specs.Valid.{Valid}
 use Rattle.spec.specs.Memory.{tableList}
-use Rattle.laws.specs.Tests.{either}
+use Rattle.laws.specs.Tests.{Tested, either}
 use Rattle.laws.specs.Nodes.{labels-small}
 use Rattle.laws.specs.Xor.{xor-block-of}
 use Rattle.laws.specs.Placed.{top-le}
@@ -52,7 +51,7 @@ module _ (ts : List Token) where
     unfolding tableList
     table-read i = go (either (ltb i (tableWords ts)))
       where
-        go : (ltb i (tableWords ts) ≡ true) ⊎ (ltb i (tableWords ts) ≡ false) → getD (upFrom (tableAt ts) (tableWords ts) 0) i 0 ≡ tableAt ts i
+        go : Tested (ltb i (tableWords ts)) → getD (upFrom (tableAt ts) (tableWords ts) 0) i 0 ≡ tableAt ts i
         go (inl e) = let z : 0 + i ≡ i = omega arith in up-at (tableAt ts) (tableWords ts) 0 i 0 (ltb-true i (tableWords ts) e) ∙ ap (tableAt ts) z
         go (inr e) =
             let h = ltb-false i (tableWords ts) e in

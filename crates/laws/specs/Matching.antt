@@ -1,8 +1,7 @@
 -- On loaded memory the walk finds the longest token, for every byte string: the theorem `matching`. Assumes nothing.
 use mathlib.Core.Path.{_≡_, refl, sym, ap, ap₂, _∙_, subst}
 use mathlib.Core.Logic.{_⊎_, inl, inr}
-use mathlib.Core.Bool.{true, false}
-use mathlib.Core.List.{List, [], _∷_, _++_, append-nil, append-assoc, List·Memᴰ, head-eq-of-cons-eq}
+use mathlib.Core.List.{List, [], _∷_, _++_, append-nil, append-assoc, head-eq-of-cons-eq, List·Memᴰ as Mem}
 use Prim.Native.Nat.{ℕ, zero, suc, _+_, _-_, _≤_, _<_}
 use native.Mathlib.Omega.{arith}
 use lib.Dec.{lit<, leb}
@@ -17,11 +16,11 @@ use Rattle.spec.specs.Layout.{top}
 use Rattle.spec.specs.Valid.{Valid}
 use Rattle.spec.specs.Memory.{Memory, idOrNone, Loaded}
 use Rattle.spec.specs.Match.{Walk, noWalk, walkOn, one, matchOn, found}
+use Rattle.spec.specs.Plain.{Prefix}
 use Rattle.spec.specs.Theorems.{matchOf, Matching}
-use Rattle.spec.specs.Plain.{Prefix as Begins}
-use Rattle.running.specs.Prefixes.{prefix-length as begins-length}
+use Rattle.running.specs.Prefixes.{prefix-length}
 use Rattle.running.specs.Longest.{longest-iff, longest-none-iff}
-use Rattle.laws.specs.Tests.{either}
+use Rattle.laws.specs.Tests.{Tested, either}
 use Rattle.laws.specs.Tokens.{id-cases, id-pos, id-low}
 use Rattle.laws.specs.Nodes.{Cut, node-is, is-node}
 use Rattle.laws.specs.Reads.{single-at}
@@ -30,8 +29,8 @@ use Rattle.laws.specs.Walk.{Passed, cut-length, passed-start, passed-mor
 -- ---- what the walk found
 
 -- where a token goes on beyond p along p ++ (d ∷ r), there is a node
-onward : {ts : List Token} (p : List ℕ) (d : ℕ) (r : List ℕ) (t : Token) → List·Memᴰ t ts → 1 ≤ length p → length p < length (t .bytes)
-    → Cut (t .bytes) (p ++ (d ∷ r)) → List·Memᴰ (p ++ (d ∷ [])) (nodes ts)
+onward : {ts : List Token} (p : List ℕ) (d : ℕ) (r : List ℕ) (t : Token) → Mem t ts → 1 ≤ length p → length p < length (t .bytes)
+    → Cut (t .bytes) (p ++ (d ∷ r)) → Mem (p ++ (d ∷ [])) (nodes ts)
 onward {ts} p d r t m one longer c = is-node ts (record { tok = t; mem = m; cut = record { rest = take k r; split = whole; two = omega (arith, len) } })
   where
     k : ℕ
@@ -48,7 +47,7 @@ onward {ts} p d r t m one longer c = is-node ts (record { tok = t; mem = m; cut 
 
 module _ {m : Memory} {ts : List Token} (L : Loaded m ts) where
   -- no token reaches beyond the node that the walk came to
-  within : (a b : ℕ) (s : List ℕ) (k : Walk) (w : Reached ts (a ∷ b ∷ take 253 s) k) (t : Token) → List·Memᴰ t ts
+  within : (a b : ℕ) (s : List ℕ) (k : Walk) (w : Reached ts (a ∷ b ∷ take 253 s) k) (t : Token) → Mem t ts
       → Cut (t .bytes) (w .node ++ (w .rest ++ drop 253 s)) → length (t .bytes) ≤ length (w .node)
   within a b s k w t n c = at (either (leb (length (t .bytes)) (length (w .node)))) (w .rest) refl
     where
@@ -58,7 +57,7 @@ module _ {m : Memory} {ts : List Token} (L : Loaded m ts) where
       two : 2 ≤ length p
       two = (node-is ts (w .mem)) .cut .two
 
-      at : (leb (length (t .bytes)) (length p) ≡ true) ⊎ (leb (length (t .bytes)) (length p) ≡ false) → (r : List ℕ) → w .rest ≡ r → length (t .bytes) ≤ length p
+      at : Tested (leb (length (t .bytes)) (length p)) → (r : List ℕ) → w .rest ≡ r → length (t .bytes) ≤ length p
       at (inl e) r q = leb-true (length (t .bytes)) (length p) e
       at (inr e) (d ∷ r) q =
           let h = leb-false (length (t .bytes)) (length p) e in
@@ -82,7 +81,7 @@ module _ {m : Memory} {ts : List Token} (L : Loaded m ts) where
       K : Walk
       K = walkOn m (a ∷ b ∷ s)
 
-      go : ((K ≡ noWalk) × (List·Memᴰ (a ∷ b ∷ []) (nodes ts) → ⊥)) ⊎ Reached ts (a ∷ b ∷ take 253 s) K → Passed ts (a ∷ b ∷ s) (K .id) (K .len)
+      go : ((K ≡ noWalk) × (Mem (a ∷ b ∷ []) (nodes ts) → ⊥)) ⊎ Reached ts (a ∷ b ∷ take 253 s) K → Passed ts (a ∷ b ∷ s) (K .id) (K .len)
       go (inl (e, lacks)) = rw e (passed-more (a ∷ []) (b ∷ s) (passed-start ts a) (λ t n c. absurd (lacks (onward (a ∷ []) b s t n (lit< tt) (c .two) c))))
       go (inr w) =
           subst (λ (z : List ℕ). Passed ts z (K .id) (K .len)) whole (passed-more (w .node) (w .rest ++ drop 253 s) (w .stands .passed) (within a b s K w))
@@ -105,11 +104,11 @@ one-found : (i : ℕ) → 1 ≤ i → one (idOrNone i) ≡ found i 1
 one-found zero h = absurd (omega arith)
 one-found (suc i) h = refl
 
-begins-cut : {q s : List ℕ} → 2 ≤ length q → Begins q s → Cut q s
-begins-cut two (r, e) = record { rest = r; split = e; two = two }
+prefix-cut : {q s : List ℕ} → 2 ≤ length q → Prefix q s → Cut q s
+prefix-cut two (r, e) = record { rest = r; split = e; two = two }
 
 -- a string of one byte that begins a ∷ s is that byte
-one-byte : (q : List ℕ) (a : ℕ) (s : List ℕ) → length q ≡ 1 → Begins q (a ∷ s) → q ≡ a ∷ []
+one-byte : (q : List ℕ) (a : ℕ) (s : List ℕ) → length q ≡ 1 → Prefix q (a ∷ s) → q ≡ a ∷ []
 one-byte [] a s h w = absurd (omega arith)
 one-byte (b ∷ []) a s h (r, e) = ap (λ (z : ℕ). z ∷ []) (sym (head-eq-of-cons-eq e))
 one-byte (b ∷ c ∷ q) a s h w = absurd (omega arith)
@@ -122,26 +121,26 @@ module _ {m : Memory} {ts : List Token} (L : Loaded m ts) (a : ℕ) (s : List �
   match-long : (i n : ℕ) → 1 ≤ i → Passed ts (a ∷ s) i n → found i n ≡ matchOf (longest ts (a ∷ s))
   match-long i n h w =
       let (t, k, c, e, l) = w .token h in
-      let top : (u : Token) → List·Memᴰ u ts → Begins (u .bytes) (a ∷ s) → length (u .bytes) ≤ length (t .bytes) = λ u j b. most t u c l j b (either (leb 2 (length (u .bytes)))) in
+      let top : (u : Token) → Mem u ts → Prefix (u .bytes) (a ∷ s) → length (u .bytes) ≤ length (t .bytes) = λ u j b. most t u c l j b (either (leb 2 (length (u .bytes)))) in
       ap₂ found (sym e) (sym l) ∙ ap matchOf (sym (longest-iff ts v (a ∷ s) t .1 (k, (c .rest, c .split), top)))
     where
-      most : (t u : Token) → Cut (t .bytes) (a ∷ s) → length (t .bytes) ≡ n → List·Memᴰ u ts → Begins (u .bytes) (a ∷ s)
-          → (leb 2 (length (u .bytes)) ≡ true) ⊎ (leb 2 (length (u .bytes)) ≡ false) → length (u .bytes) ≤ length (t .bytes)
-      most t u c l j b (inl e) = let k = w .longest u j (begins-cut (leb-true 2 (length (u .bytes)) e) b) in omega arith
+      most : (t u : Token) → Cut (t .bytes) (a ∷ s) → length (t .bytes) ≡ n → Mem u ts → Prefix (u .bytes) (a ∷ s)
+          → Tested (leb 2 (length (u .bytes))) → length (u .bytes) ≤ length (t .bytes)
+      most t u c l j b (inl e) = let k = w .longest u j (prefix-cut (leb-true 2 (length (u .bytes)) e) b) in omega arith
       most t u c l j b (inr e) = let k = leb-false 2 (length (u .bytes)) e in let o = c .two in omega arith
 
   -- else a token there has one byte
   match-one : (n : ℕ) → Passed ts (a ∷ s) 0 n → one (idOrNone (idOf ts (a ∷ []))) ≡ matchOf (longest ts (a ∷ s))
   match-one n w = go (id-cases ts (a ∷ []))
     where
-      length-one : (u : Token) → List·Memᴰ u ts → Begins (u .bytes) (a ∷ s) → length (u .bytes) ≡ 1
+      length-one : (u : Token) → Mem u ts → Prefix (u .bytes) (a ∷ s) → length (u .bytes) ≡ 1
       length-one u k b = at (either (leb 2 (length (u .bytes))))
         where
-          at : (leb 2 (length (u .bytes)) ≡ true) ⊎ (leb 2 (length (u .bytes)) ≡ false) → length (u .bytes) ≡ 1
-          at (inl e) = let c = begins-cut (leb-true 2 (length (u .bytes)) e) b in let x = w .longest u k c in let z = w .none refl in let y = c .two in absurd (omega arith)
+          at : Tested (leb 2 (length (u .bytes))) → length (u .bytes) ≡ 1
+          at (inl e) = let c = prefix-cut (leb-true 2 (length (u .bytes)) e) b in let x = w .longest u k c in let z = w .none refl in let y = c .two in absurd (omega arith)
           at (inr e) = let x = leb-false 2 (length (u .bytes)) e in let y = v .nonempty u k in omega arith
 
-      go : (idOf ts (a ∷ []) ≡ 0) ⊎ ((t : Token) × List·Memᴰ t ts × (t .bytes ≡ a ∷ []) × (idOf ts (a ∷ []) ≡ t .id)) → one (idOrNone (idOf ts (a ∷ []))) ≡ matchOf (longest ts (a ∷ s))
+      go : (idOf ts (a ∷ []) ≡ 0) ⊎ ((t : Token) × Mem t ts × (t .bytes ≡ a ∷ []) × (idOf ts (a ∷ []) ≡ t .id)) → one (idOrNone (idOf ts (a ∷ []))) ≡ matchOf (longest ts (a ∷ s))
       go (inl z) = rw z (ap matchOf (sym (longest-none-iff ts (a ∷ s) .1 (λ u k b.
           let p = id-pos (a ∷ []) (id-low ts v) k (one-byte (u .bytes) a s (length-one u k b) b) in omega arith))))
       go (inr (t, k, e, j)) =
@@ -151,7 +150,7 @@ module _ {m : Memory} {ts : List Token} (L : Loaded m ts) (a : ℕ) (s : List �
 
 pub matching : Matching
 matching m ts L [] small =
-    unfold matchOn in ap matchOf (sym (longest-none-iff ts [] .1 (λ u k b. let x = L .valid .nonempty u k in let y = begins-length (u .bytes) [] b in omega arith)))
+    unfold matchOn in ap matchOf (sym (longest-none-iff ts [] .1 (λ u k b. let x = L .valid .nonempty u k in let y = prefix-length (u .bytes) [] b in omega arith)))
 matching m ts L (a ∷ s) small = go (K .id) refl (walk-passed L a s small)
   where
     K : Walk

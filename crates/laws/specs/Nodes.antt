@@ -2,7 +2,7 @@
 use mathlib.Core.Path.{_≡_, refl, sym, ap, ap₂, _∙_, subst}
 use mathlib.Core.Logic.{_⊎_, inl, inr}
 use mathlib.Core.Bool.{Bool, true, false, _&&_, _||_, cond, and-false, and-true, or-false}
-use mathlib.Core.List.{List, [], _∷_, _++_, append-assoc, List·Memᴰ, List·Memᴰ·head, List·Memᴰ·tail, List·Memᴰ·not-nil, List·Memᴰ·cases-cons, List·Memᴰ·append-cases, Memᴰ·append-left, Memᴰ·append-right, Memᴰ·cast, List·Memᴰ·eq-of-singleton}
+use mathlib.Core.List.{List, [], _∷_, _++_, append-assoc, List·Memᴰ as Mem, List·Memᴰ·head as here, List·Memᴰ·tail as there, List·Memᴰ·cases-cons as cases-cons, List·Memᴰ·not-nil as not-nil, List·Memᴰ·append-cases as append-cases, List·Memᴰ·eq-of-singleton as eq-of-singleton, Memᴰ·append-left as mem-left, Memᴰ·append-right as mem-right, Memᴰ·cast as mem-cast}
 use Prim.Native.Nat.{ℕ, zero, suc, _+_, _≤_, _<_}
 use native.Mathlib.Omega.{arith}
 use lib.Dec.{eqb, lit<}
@@ -12,65 +12,65 @@ use Rattle.spec.specs.Lists.{any, each, fold, same, has, byteIn}
 use Rattle.spec.specs.Token.{Token}
 use Rattle.spec.specs.Trie.{extended, cuts, addNew, nodes, label, labels, withCount, falling, order}
 use Rattle.spec.specs.Valid.{Valid}
-use Rattle.laws.specs.Tests.{either, any-append, in-mem, mem-in, has-mem, mem-has, each-mem, each-find, keep-mem, keep-find}
+use Rattle.laws.specs.Tests.{Tested, either, any-append, in-mem, mem-in, has-mem, mem-has, each-mem, each-find, keep-mem, keep-find}
 use Rattle.laws.specs.Tokens.{byte-at}
 
 -- ---- adding what is new
 
-new-keeps : (ps : List (List ℕ)) (p : List ℕ) {q : List ℕ} → List·Memᴰ q ps → List·Memᴰ q (addNew ps p)
+new-keeps : (ps : List (List ℕ)) (p : List ℕ) {q : List ℕ} → Mem q ps → Mem q (addNew ps p)
 unfolding addNew
 new-keeps ps p {q} m = go (has ps p)
   where
-    go : (c : Bool) → List·Memᴰ q (cond c ps (ps ++ (p ∷ [])))
+    go : (c : Bool) → Mem q (cond c ps (ps ++ (p ∷ [])))
     go true = m
-    go false = Memᴰ·append-left (p ∷ []) m
+    go false = mem-left (p ∷ []) m
 
-new-has : (ps : List (List ℕ)) (p : List ℕ) → List·Memᴰ p (addNew ps p)
+new-has : (ps : List (List ℕ)) (p : List ℕ) → Mem p (addNew ps p)
 unfolding addNew
 new-has ps p = go (has ps p) refl
   where
-    go : (c : Bool) → has ps p ≡ c → List·Memᴰ p (cond c ps (ps ++ (p ∷ [])))
+    go : (c : Bool) → has ps p ≡ c → Mem p (cond c ps (ps ++ (p ∷ [])))
     go true e = has-mem ps p e
-    go false e = Memᴰ·append-right ps (List·Memᴰ·head refl)
+    go false e = mem-right ps (here refl)
 
-new-cases : (ps : List (List ℕ)) (p : List ℕ) {q : List ℕ} → List·Memᴰ q (addNew ps p) → List·Memᴰ q ps ⊎ (q ≡ p)
+new-cases : (ps : List (List ℕ)) (p : List ℕ) {q : List ℕ} → Mem q (addNew ps p) → Mem q ps ⊎ (q ≡ p)
 unfolding addNew
 new-cases ps p {q} m = go (has ps p) m
   where
-    go : (c : Bool) → List·Memᴰ q (cond c ps (ps ++ (p ∷ []))) → List·Memᴰ q ps ⊎ (q ≡ p)
+    go : (c : Bool) → Mem q (cond c ps (ps ++ (p ∷ []))) → Mem q ps ⊎ (q ≡ p)
     go true n = inl n
-    go false n = at (List·Memᴰ·append-cases ps n)
+    go false n = at (append-cases ps n)
       where
-        at : List·Memᴰ q ps ⊎ List·Memᴰ q (p ∷ []) → List·Memᴰ q ps ⊎ (q ≡ p)
+        at : Mem q ps ⊎ Mem q (p ∷ []) → Mem q ps ⊎ (q ≡ p)
         at (inl k) = inl k
-        at (inr k) = inr (List·Memᴰ·eq-of-singleton k)
+        at (inr k) = inr (eq-of-singleton k)
 
-all-keeps : (l ps : List (List ℕ)) {q : List ℕ} → List·Memᴰ q ps → List·Memᴰ q (fold addNew ps l)
+all-keeps : (l ps : List (List ℕ)) {q : List ℕ} → Mem q ps → Mem q (fold addNew ps l)
 unfolding fold
 all-keeps [] ps m = m
 all-keeps (p ∷ l) ps m = all-keeps l (addNew ps p) (new-keeps ps p m)
 
-all-has : (l ps : List (List ℕ)) {q : List ℕ} → List·Memᴰ q l → List·Memᴰ q (fold addNew ps l)
+all-has : (l ps : List (List ℕ)) {q : List ℕ} → Mem q l → Mem q (fold addNew ps l)
 unfolding fold
-all-has [] ps m = absurd (List·Memᴰ·not-nil m)
-all-has (p ∷ l) ps {q} m = go (List·Memᴰ·cases-cons m) (all-has l (addNew ps p))
+all-has [] ps m = absurd (not-nil m)
+all-has (p ∷ l) ps {q} m = go (cases-cons m) (all-has l (addNew ps p))
   where
-    go : (q ≡ p) ⊎ List·Memᴰ q l → (List·Memᴰ q l → List·Memᴰ q (fold addNew (addNew ps p) l)) → List·Memᴰ q (fold addNew (addNew ps p) l)
-    go (inl e) r = Memᴰ·cast e (all-keeps l (addNew ps p) (new-has ps p))
+    go : (q ≡ p) ⊎ Mem q l → (Mem q l → Mem q (fold addNew (addNew ps p) l)) → Mem q (fold addNew (addNew ps p) l)
+    go (inl e) r = mem-cast e (all-keeps l (addNew ps p) (new-has ps p))
     go (inr n) r = r n
 
-all-cases : (l ps : List (List ℕ)) {q : List ℕ} → List·Memᴰ q (fold addNew ps l) → List·Memᴰ q ps ⊎ List·Memᴰ q l
+all-cases : (l ps : List (List ℕ)) {q : List ℕ} → Mem q (fold addNew ps l) → Mem q ps ⊎ Mem q l
 unfolding fold
 all-cases [] ps m = inl m
 all-cases (p ∷ l) ps {q} m = go (all-cases l (addNew ps p) m)
   where
-    go : List·Memᴰ q (addNew ps p) ⊎ List·Memᴰ q l → List·Memᴰ q ps ⊎ List·Memᴰ q (p ∷ l)
-    go (inr n) = inr (List·Memᴰ·tail n)
+    go : Mem q (addNew ps p) ⊎ Mem q l → Mem q ps ⊎ Mem q (p ∷ l)
+    go (inr n) = inr (there n)
     go (inl n) = at (new-cases ps p n)
       where
-        at : List·Memᴰ q ps ⊎ (q ≡ p) → List·Memᴰ q ps ⊎ List·Memᴰ q (p ∷ l)
+        at : Mem q ps ⊎ (q ≡ p) → Mem q ps ⊎ Mem q (p ∷ l)
         at (inl k) = inl k
-        at (inr e) = inr (List·Memᴰ·head e)
+        at (inr e) = inr (here e)
 
 -- ---- the prefixes of one token
 
@@ -80,10 +80,10 @@ pub record Cut (q s : List ℕ) : Type 0 where
   pub split : s ≡ q ++ rest
   pub two : 2 ≤ length q
 
-extended-cut : (p bs : List ℕ) {q : List ℕ} → 1 ≤ length p → List·Memᴰ q (extended p bs) → Cut q (p ++ bs)
+extended-cut : (p bs : List ℕ) {q : List ℕ} → 1 ≤ length p → Mem q (extended p bs) → Cut q (p ++ bs)
 unfolding extended
-extended-cut p [] h m = absurd (List·Memᴰ·not-nil m)
-extended-cut p (b ∷ bs) {q} h m = go (List·Memᴰ·cases-cons m) (extended-cut (p ++ (b ∷ [])) bs)
+extended-cut p [] h m = absurd (not-nil m)
+extended-cut p (b ∷ bs) {q} h m = go (cases-cons m) (extended-cut (p ++ (b ∷ [])) bs)
   where
     len : length (p ++ (b ∷ [])) ≡ length p + 1
     len = length-append p (b ∷ [])
@@ -91,43 +91,43 @@ extended-cut p (b ∷ bs) {q} h m = go (List·Memᴰ·cases-cons m) (extended-cu
     eq : p ++ (b ∷ bs) ≡ (p ++ (b ∷ [])) ++ bs
     eq = sym (append-assoc p (b ∷ []) bs)
 
-    go : (q ≡ p ++ (b ∷ [])) ⊎ List·Memᴰ q (extended (p ++ (b ∷ [])) bs) → (1 ≤ length (p ++ (b ∷ [])) → List·Memᴰ q (extended (p ++ (b ∷ [])) bs) → Cut q ((p ++ (b ∷ [])) ++ bs)) → Cut q (p ++ (b ∷ bs))
+    go : (q ≡ p ++ (b ∷ [])) ⊎ Mem q (extended (p ++ (b ∷ [])) bs) → (1 ≤ length (p ++ (b ∷ [])) → Mem q (extended (p ++ (b ∷ [])) bs) → Cut q ((p ++ (b ∷ [])) ++ bs)) → Cut q (p ++ (b ∷ bs))
     go (inl e) r = record { rest = bs; split = eq ∙ ap (λ (z : List ℕ). z ++ bs) (sym e); two = let k = ap length e in omega (arith, len) }
     go (inr n) r = subst (Cut q) (sym eq) (r (omega (arith, len)) n)
 
-cut-extended : (p : List ℕ) (c : ℕ) (cs r : List ℕ) → List·Memᴰ (p ++ (c ∷ cs)) (extended p ((c ∷ cs) ++ r))
+cut-extended : (p : List ℕ) (c : ℕ) (cs r : List ℕ) → Mem (p ++ (c ∷ cs)) (extended p ((c ∷ cs) ++ r))
 unfolding extended
-cut-extended p c [] r = List·Memᴰ·head refl
-cut-extended p c (d ∷ cs) r = List·Memᴰ·tail (Memᴰ·cast (sym (append-assoc p (c ∷ []) (d ∷ cs))) (cut-extended (p ++ (c ∷ [])) d cs r))
+cut-extended p c [] r = here refl
+cut-extended p c (d ∷ cs) r = there (mem-cast (sym (append-assoc p (c ∷ []) (d ∷ cs))) (cut-extended (p ++ (c ∷ [])) d cs r))
 
-pub cuts-cut : (s : List ℕ) {q : List ℕ} → List·Memᴰ q (cuts s) → Cut q s
+pub cuts-cut : (s : List ℕ) {q : List ℕ} → Mem q (cuts s) → Cut q s
 unfolding cuts
-cuts-cut [] m = absurd (List·Memᴰ·not-nil m)
+cuts-cut [] m = absurd (not-nil m)
 cuts-cut (a ∷ bs) m = extended-cut (a ∷ []) bs (lit< tt) m
 
-pub cut-cuts : (s q : List ℕ) → Cut q s → List·Memᴰ q (cuts s)
+pub cut-cuts : (s q : List ℕ) → Cut q s → Mem q (cuts s)
 unfolding cuts
 cut-cuts s [] c = let h = c .two in absurd (omega arith)
 cut-cuts s (a ∷ []) c = let h = c .two in absurd (omega arith)
-cut-cuts s (a ∷ b ∷ q) c = subst (λ (z : List ℕ). List·Memᴰ (a ∷ b ∷ q) (cuts z)) (sym (c .split)) (cut-extended (a ∷ []) b q (c .rest))
+cut-cuts s (a ∷ b ∷ q) c = subst (λ (z : List ℕ). Mem (a ∷ b ∷ q) (cuts z)) (sym (c .split)) (cut-extended (a ∷ []) b q (c .rest))
 
 -- ---- the nodes
 
 pub record IsNode (ts : List Token) (q : List ℕ) : Type 0 where
   pub tok : Token
-  pub mem : List·Memᴰ tok ts
+  pub mem : Mem tok ts
   pub cut : Cut q (tok .bytes)
 
 module _ (ts : List Token) where
-  pub node-is : {q : List ℕ} → List·Memᴰ q (nodes ts) → IsNode ts q
+  pub node-is : {q : List ℕ} → Mem q (nodes ts) → IsNode ts q
   unfolding nodes
   node-is {q} m = go (all-cases (each (λ (t : Token). cuts (t .bytes)) ts) [] m)
     where
-      go : List·Memᴰ q [] ⊎ List·Memᴰ q (each (λ (t : Token). cuts (t .bytes)) ts) → IsNode ts q
-      go (inl n) = absurd (List·Memᴰ·not-nil n)
+      go : Mem q [] ⊎ Mem q (each (λ (t : Token). cuts (t .bytes)) ts) → IsNode ts q
+      go (inl n) = absurd (not-nil n)
       go (inr n) = let r = each-find (λ (t : Token). cuts (t .bytes)) ts n in record { tok = r .0; mem = r .1; cut = cuts-cut (r .0 .bytes) (r .2) }
 
-  pub is-node : {q : List ℕ} → IsNode ts q → List·Memᴰ q (nodes ts)
+  pub is-node : {q : List ℕ} → IsNode ts q → Mem q (nodes ts)
   unfolding nodes
   is-node {q} n = all-has (each (λ (t : Token). cuts (t .bytes)) ts) [] (each-mem (λ (t : Token). cuts (t .bytes)) (n .mem) (cut-cuts (n .tok .bytes) q (n .cut)))
 
@@ -135,7 +135,7 @@ module _ (ts : List Token) where
 
 -- L gives bytes only
 abbrev pub ByteLabels : (List ℕ → List ℕ) → Type 0
-ByteLabels L = (p : List ℕ) (l : ℕ) → List·Memᴰ l (L p) → l < 256
+ByteLabels L = (p : List ℕ) (l : ℕ) → Mem l (L p) → l < 256
 
 label-is : (p q : List ℕ) (b : ℕ) → byteIn (label p q) b ≡ same (p ++ (b ∷ [])) q
 unfolding byteIn label same any
@@ -155,10 +155,10 @@ unfolding byteIn labels has
 labels-is [] p b = refl
 labels-is (q ∷ ps) p b = any-append (eqb b) (label p q) (each (label p) ps) ∙ ap₂ _||_ (label-is p q b) (labels-is ps p b)
 
-pub label-node : (ps : List (List ℕ)) (p : List ℕ) (b : ℕ) → List·Memᴰ b (labels ps p) → List·Memᴰ (p ++ (b ∷ [])) ps
+pub label-node : (ps : List (List ℕ)) (p : List ℕ) (b : ℕ) → Mem b (labels ps p) → Mem (p ++ (b ∷ [])) ps
 label-node ps p b m = has-mem ps (p ++ (b ∷ [])) (sym (labels-is ps p b) ∙ mem-in m)
 
-pub node-label : (ps : List (List ℕ)) (p : List ℕ) (b : ℕ) → List·Memᴰ (p ++ (b ∷ [])) ps → List·Memᴰ b (labels ps p)
+pub node-label : (ps : List (List ℕ)) (p : List ℕ) (b : ℕ) → Mem (p ++ (b ∷ [])) ps → Mem b (labels ps p)
 node-label ps p b m = in-mem (labels ps p) b (labels-is ps p b ∙ mem-has m)
 
 -- every label is a byte
@@ -166,7 +166,7 @@ pub labels-small : (ts : List Token) → Valid ts → ByteLabels (labels (nodes 
 labels-small ts v p l m =
     let n = node-is ts (label-node (nodes ts) p l m) in
     byte-at (v .bytes (n .tok) (n .mem))
-    (subst (λ (z : List ℕ). List·Memᴰ l z) (sym (n .cut .split)) (Memᴰ·append-left (n .cut .rest) (Memᴰ·append-right p (List·Memᴰ·head refl))))
+    (subst (λ (z : List ℕ). Mem l z) (sym (n .cut .split)) (mem-left (n .cut .rest) (mem-right p (here refl))))
 
 -- ---- the order of placing
 
@@ -188,28 +188,28 @@ labels-short [] p = omega arith
 labels-short (q ∷ ps) p = let a = label-short p q in let b = labels-short ps p in let c = length-append (label p q) (each (label p) ps) in omega arith
 
 module _ (ps : List (List ℕ)) where
-  falling-mem : (n : ℕ) (p : List ℕ) → List·Memᴰ p ps → 1 ≤ length (labels ps p) → length (labels ps p) ≤ n → List·Memᴰ p (falling ps n)
+  falling-mem : (n : ℕ) (p : List ℕ) → Mem p ps → 1 ≤ length (labels ps p) → length (labels ps p) ≤ n → Mem p (falling ps n)
   unfolding falling withCount
   falling-mem zero p m a b = absurd (omega arith)
   falling-mem (suc n) p m a b = go (either (eqb (length (labels ps p)) (suc n))) (falling-mem n p m a)
     where
-      go : (eqb (length (labels ps p)) (suc n) ≡ true) ⊎ (eqb (length (labels ps p)) (suc n) ≡ false) → (length (labels ps p) ≤ n → List·Memᴰ p (falling ps n)) → List·Memᴰ p (withCount ps (suc n) ++ falling ps n)
-      go (inl e) r = Memᴰ·append-left (falling ps n) (keep-mem (λ (q : List ℕ). eqb (length (labels ps q)) (suc n)) m e)
-      go (inr e) r = let ne = eqb-false (length (labels ps p)) (suc n) e in Memᴰ·append-right (withCount ps (suc n)) (r (omega (arith, ne)))
+      go : Tested (eqb (length (labels ps p)) (suc n)) → (length (labels ps p) ≤ n → Mem p (falling ps n)) → Mem p (withCount ps (suc n) ++ falling ps n)
+      go (inl e) r = mem-left (falling ps n) (keep-mem (λ (q : List ℕ). eqb (length (labels ps q)) (suc n)) m e)
+      go (inr e) r = let ne = eqb-false (length (labels ps p)) (suc n) e in mem-right (withCount ps (suc n)) (r (omega (arith, ne)))
 
-  falling-find : (n : ℕ) {p : List ℕ} → List·Memᴰ p (falling ps n) → List·Memᴰ p ps × (1 ≤ length (labels ps p))
+  falling-find : (n : ℕ) {p : List ℕ} → Mem p (falling ps n) → Mem p ps × (1 ≤ length (labels ps p))
   unfolding falling withCount
-  falling-find zero m = absurd (List·Memᴰ·not-nil m)
-  falling-find (suc n) {p} m = go (List·Memᴰ·append-cases (withCount ps (suc n)) m) (falling-find n)
+  falling-find zero m = absurd (not-nil m)
+  falling-find (suc n) {p} m = go (append-cases (withCount ps (suc n)) m) (falling-find n)
     where
-      go : List·Memᴰ p (withCount ps (suc n)) ⊎ List·Memᴰ p (falling ps n) → (List·Memᴰ p (falling ps n) → List·Memᴰ p ps × (1 ≤ length (labels ps p))) → List·Memᴰ p ps × (1 ≤ length (labels ps p))
+      go : Mem p (withCount ps (suc n)) ⊎ Mem p (falling ps n) → (Mem p (falling ps n) → Mem p ps × (1 ≤ length (labels ps p))) → Mem p ps × (1 ≤ length (labels ps p))
       go (inl k) r = let f = keep-find (λ (q : List ℕ). eqb (length (labels ps q)) (suc n)) ps k in let e = eqb-true (length (labels ps p)) (suc n) (f .1) in (f .0, omega arith)
       go (inr k) r = r k
 
-  pub order-mem : (p : List ℕ) → List·Memᴰ p ps → 1 ≤ length (labels ps p) → List·Memᴰ p (order ps)
+  pub order-mem : (p : List ℕ) → Mem p ps → 1 ≤ length (labels ps p) → Mem p (order ps)
   unfolding order
   order-mem p m h = falling-mem (length ps) p m h (labels-short ps p)
 
-  pub order-find : {p : List ℕ} → List·Memᴰ p (order ps) → List·Memᴰ p ps × (1 ≤ length (labels ps p))
+  pub order-find : {p : List ℕ} → Mem p (order ps) → Mem p ps × (1 ≤ length (labels ps p))
   unfolding order
   order-find m = falling-find (length ps) m

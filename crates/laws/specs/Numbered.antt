@@ -2,7 +2,7 @@
 use mathlib.Core.Path.{_≡_, refl, sym, ap, ap₂, _∙_, subst}
 use mathlib.Core.Logic.{_⊎_, inl, inr}
 use mathlib.Core.Bool.{Bool, true, false, not, cond, false≢true}
-use mathlib.Core.List.{List, [], _∷_, _++_, map, List·Memᴰ, List·Memᴰ·head, List·Memᴰ·tail, List·Memᴰ·not-nil, List·Memᴰ·append-cases, Memᴰ·cast, Memᴰ·of-map, List·Memᴰ·eq-of-singleton}
+use mathlib.Core.List.{List, [], _∷_, _++_, map, List·Memᴰ as Mem, List·Memᴰ·head as here, List·Memᴰ·tail as there, List·Memᴰ·not-nil as not-nil, List·Memᴰ·append-cases as append-cases, List·Memᴰ·eq-of-singleton as eq-of-singleton, Memᴰ·cast as mem-cast, Memᴰ·of-map as mem-of-map}
 use Prim.Native.Nat.{ℕ, zero, suc, _+_, _≤_, _<_}
 use native.Mathlib.Omega.{arith}
 use lib.Dec.{eqb}
@@ -27,64 +27,64 @@ unfoldable pub number : List (List ℕ) → List ℕ → ℕ
 unfolding place-of
 number ps p = suc (place-of ps p)
 
-pub place-lt : {ps : List (List ℕ)} {p : List ℕ} → List·Memᴰ p ps → place-of ps p < length ps
+pub place-lt : {ps : List (List ℕ)} {p : List ℕ} → Mem p ps → place-of ps p < length ps
 unfolding place-of
-place-lt {p} (List·Memᴰ·head {x = q} {xs = ps} e) = go (same p q) (ap (same p) (sym e) ∙ same-refl p)
+place-lt {p} (here {x = q} {xs = ps} e) = go (same p q) (ap (same p) (sym e) ∙ same-refl p)
   where
     go : (c : Bool) → c ≡ true → cond c zero (suc (place-of ps p)) < suc (length ps)
     go true h = omega arith
     go false h = absurd (false≢true h)
-place-lt {p} (List·Memᴰ·tail {x = q} {xs = ps} m) = go (same p q) (place-lt m)
+place-lt {p} (there {x = q} {xs = ps} m) = go (same p q) (place-lt m)
   where
     go : (c : Bool) → place-of ps p < length ps → cond c zero (suc (place-of ps p)) < suc (length ps)
     go true h = omega arith
     go false h = omega arith
 
-pub at-place : {ps : List (List ℕ)} {p : List ℕ} → List·Memᴰ p ps → getD ps (place-of ps p) [] ≡ p
+pub at-place : {ps : List (List ℕ)} {p : List ℕ} → Mem p ps → getD ps (place-of ps p) [] ≡ p
 unfolding place-of
-at-place {p} (List·Memᴰ·head {x = q} {xs = ps} e) = ap (λ (c : Bool). getD (q ∷ ps) (cond c zero (suc (place-of ps p))) []) (ap (same p) (sym e) ∙ same-refl p) ∙ sym e
-at-place {p} (List·Memᴰ·tail {x = q} {xs = ps} m) = go (same p q) refl (at-place m)
+at-place {p} (here {x = q} {xs = ps} e) = ap (λ (c : Bool). getD (q ∷ ps) (cond c zero (suc (place-of ps p))) []) (ap (same p) (sym e) ∙ same-refl p) ∙ sym e
+at-place {p} (there {x = q} {xs = ps} m) = go (same p q) refl (at-place m)
   where
     go : (c : Bool) → same p q ≡ c → getD ps (place-of ps p) [] ≡ p → getD (q ∷ ps) (cond c zero (suc (place-of ps p))) [] ≡ p
     go true h r = sym (same-eq p q h)
     go false h r = r
 
 -- a number once given stays, and a new node has the next
-pub place-stays : {ps : List (List ℕ)} {p : List ℕ} (r : List (List ℕ)) → List·Memᴰ p ps → place-of (ps ++ r) p ≡ place-of ps p
+pub place-stays : {ps : List (List ℕ)} {p : List ℕ} (r : List (List ℕ)) → Mem p ps → place-of (ps ++ r) p ≡ place-of ps p
 unfolding place-of
-place-stays {p} r (List·Memᴰ·head {x = q} {xs = ps} e) = go (same p q) (ap (same p) (sym e) ∙ same-refl p)
+place-stays {p} r (here {x = q} {xs = ps} e) = go (same p q) (ap (same p) (sym e) ∙ same-refl p)
   where
     go : (c : Bool) → c ≡ true → cond c zero (suc (place-of (ps ++ r) p)) ≡ cond c zero (suc (place-of ps p))
     go true h = refl
     go false h = absurd (false≢true h)
-place-stays {p} r (List·Memᴰ·tail {x = q} {xs = ps} m) = ap (λ (n : ℕ). cond (same p q) zero (suc n)) (place-stays r m)
+place-stays {p} r (there {x = q} {xs = ps} m) = ap (λ (n : ℕ). cond (same p q) zero (suc n)) (place-stays r m)
 
-pub place-new : (ps : List (List ℕ)) (p : List ℕ) → (List·Memᴰ p ps → ⊥) → place-of (ps ++ (p ∷ [])) p ≡ length ps
+pub place-new : (ps : List (List ℕ)) (p : List ℕ) → (Mem p ps → ⊥) → place-of (ps ++ (p ∷ [])) p ≡ length ps
 unfolding place-of
 place-new [] p h = ap (λ (c : Bool). cond c zero 1) (same-refl p)
 place-new (q ∷ ps) p h =
-    ap (λ (c : Bool). cond c zero (suc (place-of (ps ++ (p ∷ [])) p))) (no-true (same p q) (λ e. h (List·Memᴰ·head (same-eq p q e))))
-    ∙ ap suc (place-new ps p (λ m. h (List·Memᴰ·tail m)))
+    ap (λ (c : Bool). cond c zero (suc (place-of (ps ++ (p ∷ [])) p))) (no-true (same p q) (λ e. h (here (same-eq p q e))))
+    ∙ ap suc (place-new ps p (λ m. h (there m)))
 
 -- ---- nothing twice
 
 abbrev pub Fresh : {A : Type 0} → List A → Type 0
 Fresh [] = Unit {0}
-Fresh (x ∷ xs) = (List·Memᴰ x xs → ⊥) × Fresh xs
+Fresh (x ∷ xs) = (Mem x xs → ⊥) × Fresh xs
 
-pub fresh-snoc : {A : Type 0} (xs : List A) (y : A) → Fresh xs → (List·Memᴰ y xs → ⊥) → Fresh (xs ++ (y ∷ []))
-fresh-snoc [] y f h = (List·Memᴰ·not-nil, tt)
-fresh-snoc (x ∷ xs) y f h = ((λ m. go (List·Memᴰ·append-cases xs m)), fresh-snoc xs y (f .1) (λ m. h (List·Memᴰ·tail m)))
+pub fresh-snoc : {A : Type 0} (xs : List A) (y : A) → Fresh xs → (Mem y xs → ⊥) → Fresh (xs ++ (y ∷ []))
+fresh-snoc [] y f h = (not-nil, tt)
+fresh-snoc (x ∷ xs) y f h = ((λ m. go (append-cases xs m)), fresh-snoc xs y (f .1) (λ m. h (there m)))
   where
-    go : List·Memᴰ x xs ⊎ List·Memᴰ x (y ∷ []) → ⊥
+    go : Mem x xs ⊎ Mem x (y ∷ []) → ⊥
     go (inl m) = f .0 m
-    go (inr m) = h (List·Memᴰ·head (sym (List·Memᴰ·eq-of-singleton m)))
+    go (inr m) = h (here (sym (eq-of-singleton m)))
 
-pub fresh-map : {A B : Type 0} (f : A → B) (l : List A) → Fresh l → ((x y : A) → List·Memᴰ x l → List·Memᴰ y l → f x ≡ f y → x ≡ y) → Fresh (map f l)
+pub fresh-map : {A B : Type 0} (f : A → B) (l : List A) → Fresh l → ((x y : A) → Mem x l → Mem y l → f x ≡ f y → x ≡ y) → Fresh (map f l)
 fresh-map f [] h i = tt
 fresh-map f (x ∷ l) h i = (
-  (λ m. let r = Memᴰ·of-map f l m in h .0 (Memᴰ·cast (i x (r .0) (List·Memᴰ·head refl) (List·Memᴰ·tail (r .1)) (sym (r .2))) (r .1))),
-  fresh-map f l (h .1) (λ a b m n e. i a b (List·Memᴰ·tail m) (List·Memᴰ·tail n) e),
+  (λ m. let r = mem-of-map f l m in h .0 (mem-cast (i x (r .0) (here refl) (there (r .1)) (sym (r .2))) (r .1))),
+  fresh-map f l (h .1) (λ a b m n e. i a b (there m) (there n) e),
 )
 
 new-fresh : (ps : List (List ℕ)) (p : List ℕ) → Fresh ps → Fresh (addNew ps p)
@@ -125,7 +125,7 @@ labels-fresh (q ∷ ps) p f = go (label-shape p q) (labels-fresh ps p (f .1))
   where
     go : (label p q ≡ []) ⊎ ((b : ℕ) × (label p q ≡ b ∷ []) × (q ≡ p ++ (b ∷ []))) → Fresh (labels ps p) → Fresh (label p q ++ labels ps p)
     go (inl z) r = subst (λ (l : List ℕ). Fresh (l ++ labels ps p)) (sym z) r
-    go (inr s) r = subst (λ (l : List ℕ). Fresh (l ++ labels ps p)) (sym (s .1)) ((λ m. f .0 (Memᴰ·cast (s .2) (label-node ps p (s .0) m))), r)
+    go (inr s) r = subst (λ (l : List ℕ). Fresh (l ++ labels ps p)) (sym (s .1)) ((λ m. f .0 (mem-cast (s .2) (label-node ps p (s .0) m))), r)
 
 -- ---- distinct numbers below n are at most n
 
@@ -138,10 +138,10 @@ keep-fresh f (x ∷ l) h = go (f x) (keep-fresh f l (h .1))
     go true r = ((λ m. h .0 ((keep-find f l m) .0)), r)
     go false r = r
 
-keep-all : (f : ℕ → Bool) (l : List ℕ) → ((x : ℕ) → List·Memᴰ x l → f x ≡ true) → keep f l ≡ l
+keep-all : (f : ℕ → Bool) (l : List ℕ) → ((x : ℕ) → Mem x l → f x ≡ true) → keep f l ≡ l
 unfolding keep
 keep-all f [] h = refl
-keep-all f (x ∷ l) h = ap (λ (c : Bool). cond c (x ∷ keep f l) (keep f l)) (h x (List·Memᴰ·head refl)) ∙ ap (λ (z : List ℕ). x ∷ z) (keep-all f l (λ y m. h y (List·Memᴰ·tail m)))
+keep-all f (x ∷ l) h = ap (λ (c : Bool). cond c (x ∷ keep f l) (keep f l)) (h x (here refl)) ∙ ap (λ (z : List ℕ). x ∷ z) (keep-all f l (λ y m. h y (there m)))
 
 one-off : (n : ℕ) (l : List ℕ) → Fresh l → length l ≤ suc (length (keep (λ x. not (eqb n x)) l))
 unfolding keep
@@ -155,12 +155,12 @@ one-off n (x ∷ l) h = go (eqb n x) refl (one-off n l (h .1))
     go false e r = omega arith
     go true e r = let k = ap length (keep-all f l others) in omega arith
       where
-        others : (y : ℕ) → List·Memᴰ y l → f y ≡ true
-        others y m = ap not (no-true (eqb n y) (λ t. h .0 (Memᴰ·cast (sym (eqb-true n x e) ∙ eqb-true n y t) m)))
+        others : (y : ℕ) → Mem y l → f y ≡ true
+        others y m = ap not (no-true (eqb n y) (λ t. h .0 (mem-cast (sym (eqb-true n x e) ∙ eqb-true n y t) m)))
 
-pub pigeon : (n : ℕ) (l : List ℕ) → Fresh l → ((x : ℕ) → List·Memᴰ x l → x < n) → length l ≤ n
+pub pigeon : (n : ℕ) (l : List ℕ) → Fresh l → ((x : ℕ) → Mem x l → x < n) → length l ≤ n
 pigeon zero [] f h = omega arith
-pigeon zero (x ∷ l) f h = let k = h x (List·Memᴰ·head refl) in absurd (omega arith)
+pigeon zero (x ∷ l) f h = let k = h x (here refl) in absurd (omega arith)
 pigeon (suc n) l f h =
     let a = one-off n l f in
     let b = pigeon n (keep (λ x. not (eqb n x)) l) (keep-fresh (λ x. not (eqb n x)) l f)
@@ -174,16 +174,16 @@ pub count-small : (ts : List Token) → Valid ts → (p : List ℕ) → length (
 count-small ts v p = pigeon 256 (labels (nodes ts) p) (labels-fresh (nodes ts) p (nodes-fresh ts)) (labels-small ts v p)
 
 -- a list without repeats, all of whose members are in another, is no longer than it
-pub fresh-within : (qs ps : List (List ℕ)) → Fresh qs → ((p : List ℕ) → List·Memᴰ p qs → List·Memᴰ p ps) → length qs ≤ length ps
+pub fresh-within : (qs ps : List (List ℕ)) → Fresh qs → ((p : List ℕ) → Mem p qs → Mem p ps) → length qs ≤ length ps
 fresh-within qs ps f h =
     let d : length (map (place-of ps) qs) ≤ length ps = pigeon (length ps) (map (place-of ps) qs) (fresh-map (place-of ps) qs f same-place) below in
     omega (arith, length-map qs (place-of ps))
   where
-    same-place : (p q : List ℕ) → List·Memᴰ p qs → List·Memᴰ q qs → place-of ps p ≡ place-of ps q → p ≡ q
+    same-place : (p q : List ℕ) → Mem p qs → Mem q qs → place-of ps p ≡ place-of ps q → p ≡ q
     same-place p q m n e = sym (at-place (h p m)) ∙ ap (λ (i : ℕ). getD ps i []) e ∙ at-place (h q n)
 
-    below : (i : ℕ) → List·Memᴰ i (map (place-of ps) qs) → i < length ps
-    below i m = let r = Memᴰ·of-map (place-of ps) qs m in subst (λ (z : ℕ). z < length ps) (r .2) (place-lt (h (r .0) (r .1)))
+    below : (i : ℕ) → Mem i (map (place-of ps) qs) → i < length ps
+    below i m = let r = mem-of-map (place-of ps) qs m in subst (λ (z : ℕ). z < length ps) (r .2) (place-lt (h (r .0) (r .1)))
 
 -- ---- the order from 256 children down
 

@@ -10,7 +10,7 @@ use lib.Dec.{eqb, lit<, ltb, leb}
 use lib.Pow.{pow-add, shl-shr, shr-shr}
 use borrow.Author.Tests.{eqb-true, eqb-false, ltb-true, leb-true, ltb-false}
 use Rattle.spec.specs.Match.{one}
-use Rattle.laws.specs.Tests.{either, or-cases, and-l, and-r}
+use Rattle.laws.specs.Tests.{Tested, either, or-cases, and-l, and-r}
 
 -- ---- bits
 
@@ -73,7 +73,7 @@ unfolding allBelow
 below zero f e i h = absurd (omega arith)
 below (suc n) f e i h = go (either (eqb i n)) (below n f (and-r (f n) (allBelow n f) e) i)
   where
-    go : (eqb i n ≡ true) ⊎ (eqb i n ≡ false) → (i < n → f i ≡ true) → f i ≡ true
+    go : Tested (eqb i n) → (i < n → f i ≡ true) → f i ≡ true
     go (inl q) r = ap f (eqb-true i n q) ∙ and-l (f n) (allBelow n f) e
     go (inr q) r = let ne = eqb-false i n q in r (omega (arith, ne))
 
@@ -107,7 +107,7 @@ stage-bit m s w i e = stage-bits m s w i ∙ go (or-cases _ _ e)
     zero-part q (inl h) = low-part m s w i (ltb-true i s h)
     zero-part q (inr h) = at (either (ltb i s))
       where
-        at : (ltb i s ≡ true) ⊎ (ltb i s ≡ false) → bit (bitAnd w m * 2 ^ s) i ≡ 0
+        at : Tested (ltb i s) → bit (bitAnd w m * 2 ^ s) i ≡ 0
         at (inl k) = low-part m s w i (ltb-true i s k)
         at (inr k) = high-part m s w i (ltb-false i s k) ∙ ap (min (bit w (i - s))) (eqb-true (bit m (i - s)) 0 h) ∙ min-zero (bit w (i - s))
 

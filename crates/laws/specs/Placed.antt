@@ -2,7 +2,7 @@
 use mathlib.Core.Path.{_≡_, refl, sym, ap, ap₂, _∙_}
 use mathlib.Core.Logic.{_⊎_, inl, inr}
 use mathlib.Core.Bool.{Bool, true, false, not, _&&_, _||_, and-false}
-use mathlib.Core.List.{List, [], _∷_, map, List·Memᴰ, List·Memᴰ·head, List·Memᴰ·tail, List·Memᴰ·not-nil, List·Memᴰ·cases-cons, Memᴰ·cast, Memᴰ·map, Memᴰ·of-map}
+use mathlib.Core.List.{List, [], _∷_, map, List·Memᴰ as Mem, List·Memᴰ·head as here, List·Memᴰ·tail as there, List·Memᴰ·cases-cons as cases-cons, List·Memᴰ·not-nil as not-nil, Memᴰ·cast as mem-cast, Memᴰ·of-map as mem-of-map, Memᴰ·map as mem-map}
 use Prim.Native.Nat.{ℕ, _+_, _/_, _-_, _≤_, _<_}
 use native.Mathlib.Omega.{arith}
 use lib.Bits.{bitXor, xor-comm}
@@ -15,33 +15,33 @@ use Rattle.laws.specs.Nodes.{ByteLabels}
 use Rattle.laws.specs.Xor.{xor-cancel, xor-block-of}
 use Rattle.laws.specs.First.{first-passes, least, from-le}
 
-pub top-le : {x : Put} {xs : List Put} → List·Memᴰ x xs → x .base / 256 ≤ top xs
+pub top-le : {x : Put} {xs : List Put} → Mem x xs → x .base / 256 ≤ top xs
 unfolding top
-top-le (List·Memᴰ·head {x = y} {xs = xs} e) = let p = ap (λ (z : Put). z .base / 256) e in omega arith
-top-le (List·Memᴰ·tail {x = y} {xs = xs} m) = let p = top-le m in omega arith
+top-le (here {x = y} {xs = xs} e) = let p = ap (λ (z : Put). z .base / 256) e in omega arith
+top-le (there {x = y} {xs = xs} m) = let p = top-le m in omega arith
 
 -- ---- the invariant
 
 abbrev pub Good : (List ℕ → List ℕ) → List Put → Type 0
 Good L [] = Unit {0}
-Good L (x ∷ xs) = (1 ≤ x .base / 256) × (used xs (x .base) ≡ false) × ((l : ℕ) → List·Memᴰ l (L (x .node)) → taken L xs (bitXor (x .base) l) ≡ false) × Good L xs
+Good L (x ∷ xs) = (1 ≤ x .base / 256) × (used xs (x .base) ≡ false) × ((l : ℕ) → Mem l (L (x .node)) → taken L xs (bitXor (x .base) l) ≡ false) × Good L xs
 
-pub used-mem : {x : Put} {xs : List Put} (b : ℕ) → List·Memᴰ x xs → b ≡ x .base → used xs b ≡ true
+pub used-mem : {x : Put} {xs : List Put} (b : ℕ) → Mem x xs → b ≡ x .base → used xs b ≡ true
 unfolding used
 used-mem {x} b m e = any-mem (λ (z : Put). eqb b (z .base)) m (eq-eqb b (x .base) e)
 
 module _ (L : List ℕ → List ℕ) where
-  pub taken-mem : {x : Put} {xs : List Put} (l s : ℕ) → List·Memᴰ x xs → List·Memᴰ l (L (x .node)) → bitXor (x .base) l ≡ s → taken L xs s ≡ true
+  pub taken-mem : {x : Put} {xs : List Put} (l s : ℕ) → Mem x xs → Mem l (L (x .node)) → bitXor (x .base) l ≡ s → taken L xs s ≡ true
   unfolding taken
   taken-mem {x} l s m k e =
       any-mem (λ (z : Put). byteIn (map (bitXor (z .base)) (L (z .node))) s) m
-      (mem-in (Memᴰ·cast (sym e) (Memᴰ·map (bitXor (x .base)) k)))
+      (mem-in (mem-cast (sym e) (mem-map (bitXor (x .base)) k)))
 
-  pub alone : (xs : List Put) → Good L xs → {x y : Put} → List·Memᴰ x xs → List·Memᴰ y xs → x .base ≡ y .base → x ≡ y
-  alone [] g m n e = absurd (List·Memᴰ·not-nil m)
-  alone (z ∷ xs) g {x} {y} m n e = go (List·Memᴰ·cases-cons m) (List·Memᴰ·cases-cons n) (λ p q. alone xs (g .3) p q e)
+  pub alone : (xs : List Put) → Good L xs → {x y : Put} → Mem x xs → Mem y xs → x .base ≡ y .base → x ≡ y
+  alone [] g m n e = absurd (not-nil m)
+  alone (z ∷ xs) g {x} {y} m n e = go (cases-cons m) (cases-cons n) (λ p q. alone xs (g .3) p q e)
     where
-      go : (x ≡ z) ⊎ List·Memᴰ x xs → (y ≡ z) ⊎ List·Memᴰ y xs → (List·Memᴰ x xs → List·Memᴰ y xs → x ≡ y) → x ≡ y
+      go : (x ≡ z) ⊎ Mem x xs → (y ≡ z) ⊎ Mem y xs → (Mem x xs → Mem y xs → x ≡ y) → x ≡ y
       go (inl p) (inl q) r = p ∙ sym q
       go (inl p) (inr q) r = absurd (clash (used-mem (z .base) q (ap (λ (w : Put). w .base) (sym p) ∙ e)) (g .1))
       go (inr p) (inl q) r = absurd (clash (used-mem (z .base) p (ap (λ (w : Put). w .base) (sym q) ∙ sym e)) (g .1))
@@ -60,22 +60,22 @@ module _ (L : List ℕ → List ℕ) where
     pub first-small : (p : List ℕ) → first (L p) < 256
     first-small p = go (L p) (small p)
       where
-        go : (ls : List ℕ) → ((l : ℕ) → List·Memᴰ l ls → l < 256) → first ls < 256
+        go : (ls : List ℕ) → ((l : ℕ) → Mem l ls → l < 256) → first ls < 256
         go [] h = unfold first in lit< tt
-        go (l ∷ ls) h = unfold first in h l (List·Memᴰ·head refl)
+        go (l ∷ ls) h = unfold first in h l (here refl)
 
     -- a base in a block above every block used free
-    pub above : (xs : List Put) (ls : List ℕ) (b : ℕ) → ((l : ℕ) → List·Memᴰ l ls → l < 256) → top xs < b / 256 → free L xs ls b ≡ true
+    pub above : (xs : List Put) (ls : List ℕ) (b : ℕ) → ((l : ℕ) → Mem l ls → l < 256) → top xs < b / 256 → free L xs ls b ≡ true
     unfolding free used taken
     above xs ls b sm h = ap₂ (λ (u v : Bool). not u && not v) not-used (none-any _ ls unclaimed)
       where
         not-used : used xs b ≡ false
         not-used = none-any _ xs (λ x m e. let q = ap (λ (z : ℕ). z / 256) (eqb-true b (x .base) e) in let t = top-le m in omega arith)
 
-        unclaimed : (l : ℕ) → List·Memᴰ l ls → taken L xs (bitXor b l) ≡ true → ⊥
+        unclaimed : (l : ℕ) → Mem l ls → taken L xs (bitXor b l) ≡ true → ⊥
         unclaimed l m e =
             let r = any-find (λ (z : Put). byteIn (map (bitXor (z .base)) (L (z .node))) (bitXor b l)) xs e in
-            let k = Memᴰ·of-map (bitXor (r .0 .base)) (L (r .0 .node)) (in-mem _ _ (r .2)) in
+            let k = mem-of-map (bitXor (r .0 .base)) (L (r .0 .node)) (in-mem _ _ (r .2)) in
             let q = ap (λ (z : ℕ). z / 256) (k .2) in
             let t = top-le (r .1) in
             let u = xor-block-of b l (sm l m) in

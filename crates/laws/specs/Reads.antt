@@ -1,7 +1,7 @@
 -- What each cell of loaded memory holds; and that `memoryOf` gives loaded memory, of the lengths that it had. Assumes nothing.
 use mathlib.Core.Path.{_≡_, sym, ap, _∙_}
-use mathlib.Core.Logic.{_⊎_, inl, inr}
-use mathlib.Core.Bool.{true, false}
+use mathlib.Core.Logic.{inl, inr}
+use mathlib.Core.Bool.{false}
 use mathlib.Core.List.{List, [], _∷_, _++_}
 use Prim.Native.Nat.{ℕ, _+_, _-_, _≤_, _<_}
 use native.Mathlib.Omega.{arith}
@@ -15,7 +15,7 @@ use Rattle.spec.specs.Token.{Token, idOf}
 use Rattle.spec.specs.Layout.{tableAt, rootAt, tableWords}
 use Rattle.spec.specs.Valid.{Valid}
 use Rattle.spec.specs.Memory.{Memory, tooShort, idOrNone, lengthBefore, singleList, offsetList, blobBytes, rootList, tableList, padded, memoryOf, Loaded}
-use Rattle.laws.specs.Tests.{either, neither}
+use Rattle.laws.specs.Tests.{Tested, either, neither}
 use Rattle.laws.specs.Listed.{up-length, up-at, table-read}
 
 -- ---- cells
@@ -29,14 +29,14 @@ module _ {A : Type 0} (l : List A) (f : ℕ → A) (n : ℕ) (e : take n l ≡ u
 replicate-read : (n i : ℕ) → _≡_ {A = ℕ} (getD (replicate n 0) i 0) 0
 replicate-read n i = go (either (ltb i n))
   where
-    go : (ltb i n ≡ true) ⊎ (ltb i n ≡ false) → _≡_ {A = ℕ} (getD (replicate n 0) i 0) 0
+    go : Tested (ltb i n) → _≡_ {A = ℕ} (getD (replicate n 0) i 0) 0
     go (inl e) = getD-replicate n i 0 0 (ltb-true i n e)
     go (inr e) = List·getD-eq-default (replicate n 0) 0 (omega (arith, ltb-false i n e, length-replicate {A = ℕ} n 0))
 
 padded-read : (l : List ℕ) (n i : ℕ) → getD (l ++ replicate n 0) i 0 ≡ getD l i 0
 padded-read l n i = go (either (ltb i (length l)))
   where
-    go : (ltb i (length l) ≡ true) ⊎ (ltb i (length l) ≡ false) → getD (l ++ replicate n 0) i 0 ≡ getD l i 0
+    go : Tested (ltb i (length l)) → getD (l ++ replicate n 0) i 0 ≡ getD l i 0
     go (inl e) = List·getD-append l (replicate n 0) 0 i (ltb-true i (length l) e)
     go (inr e) =
         let h = ltb-false i (length l) e in

@@ -1,8 +1,8 @@
 -- The search by 64-bit words of marks finds what `firstFrom` finds. Assumes nothing.
 use mathlib.Core.Path.{_≡_, refl, sym, ap, ap₂, _∙_, subst}
-use mathlib.Core.Logic.{_⊎_, inl, inr}
-use mathlib.Core.Bool.{Bool, true, false, _||_, or-assoc, or-false}
-use mathlib.Core.List.{List, [], _∷_, List·Memᴰ, List·Memᴰ·head, List·Memᴰ·tail}
+use mathlib.Core.Logic.{inl, inr}
+use mathlib.Core.Bool.{Bool, false, _||_, or-assoc, or-false}
+use mathlib.Core.List.{List, [], _∷_, List·Memᴰ as Mem, List·Memᴰ·head as here, List·Memᴰ·tail as there}
 use Prim.Native.Nat.{ℕ, zero, suc, _+_, _*_, _/_, _%_, _^_, _-_, _<_, max}
 use native.Mathlib.Nat.{div-lt-iff-lt-mul, one-mul}
 use native.Mathlib.Omega.{arith}
@@ -14,7 +14,7 @@ use lib.Seq.{getD-set-same, getD-set-other}
 use borrow.Author.Tests.{eqb-true, eqb-false, eq-eqb, ltb-true, ltb-false}
 use Rattle.spec.specs.Lists.{any}
 use Rattle.spec.specs.Token.{off}
-use Rattle.laws.specs.Tests.{either, or-r, no-true, iff-eq}
+use Rattle.laws.specs.Tests.{Tested, either, or-r, no-true, iff-eq}
 use Rattle.laws.specs.Xor.{xor-assoc, xor-in-block}
 use Rattle.laws.specs.Perm.{bit, bit-lt, bit-or, bit-shl-low, xorPerm, perm-bit}
 
@@ -34,7 +34,7 @@ bit-one j = ap (λ (z : ℕ). z % 2) (ap (λ (z : ℕ). z / 2 ^ j) (sym (one-mul
 bit-off : (j i : ℕ) → (i ≡ j → ⊥) → bit (2 ^ j) i ≡ 0
 bit-off j i ne = go (either (ltb i j))
   where
-    go : (ltb i j ≡ true) ⊎ (ltb i j ≡ false) → bit (2 ^ j) i ≡ 0
+    go : Tested (ltb i j) → bit (2 ^ j) i ≡ 0
     go (inl e) =
         let h = ltb-true i j e in
         let q : j ≡ suc (j - suc i) + i = omega arith in
@@ -51,7 +51,7 @@ or-mark W i j = go (either (eqb i j))
     b : bit W i < 2
     b = bit-lt W i
 
-    go : (eqb i j ≡ true) ⊎ (eqb i j ≡ false) → eqb (bit (bitOr W (2 ^ j)) i) 1 ≡ (eqb (bit W i) 1 || eqb i j)
+    go : Tested (eqb i j) → eqb (bit (bitOr W (2 ^ j)) i) 1 ≡ (eqb (bit W i) 1 || eqb i j)
     go (inl e) =
         let o = bit-or W (2 ^ j) i in
         let p = ap (bit (2 ^ j)) (eqb-true i j e) ∙ bit-one j in
@@ -70,7 +70,7 @@ mark-is M s t h = go (either (eqb (t / 64) (s / 64)))
     new : ℕ
     new = bitOr (getD M (s / 64) 0) (2 ^ (s % 64))
 
-    go : (eqb (t / 64) (s / 64) ≡ true) ⊎ (eqb (t / 64) (s / 64) ≡ false) → eqb (bit (getD (set M (s / 64) new) (t / 64) 0) (t % 64)) 1 ≡ (eqb (bit (getD M (t / 64) 0) (t % 64)) 1 || eqb t s)
+    go : Tested (eqb (t / 64) (s / 64)) → eqb (bit (getD (set M (s / 64) new) (t / 64) 0) (t % 64)) 1 ≡ (eqb (bit (getD M (t / 64) 0) (t % 64)) 1 || eqb t s)
     go (inl e) =
         let q = eqb-true (t / 64) (s / 64) e in
         ap (λ (z : ℕ). eqb (bit (getD (set M (s / 64) new) z 0) (t % 64)) 1) q
@@ -128,14 +128,14 @@ bit-or-test a b i = ap (λ (z : ℕ). eqb z 1) (bit-or a b i) ∙ go (bit a i) (
     go (suc zero) (suc (suc y)) p q = absurd (omega arith)
     go (suc (suc x)) y p q = absurd (omega arith)
 
-pub clashes-is : (M : List ℕ) (B w i l1 : ℕ) (ls : List ℕ) (acc : ℕ) → w < 4 → i < 64 → l1 < 256 → ((l : ℕ) → List·Memᴰ l ls → l < 256)
+pub clashes-is : (M : List ℕ) (B w i l1 : ℕ) (ls : List ℕ) (acc : ℕ) → w < 4 → i < 64 → l1 < 256 → ((l : ℕ) → Mem l ls → l < 256)
     → eqb (bit (clashes M B w l1 ls acc) i) 1 ≡ (eqb (bit acc i) 1 || any (λ l. marked M (bitXor (bitXor (B * 256 + (w * 64 + i)) l1) l)) ls)
 unfolding clashes any
 clashes-is M B w i l1 [] acc hw hi h1 small = sym (or-false _)
 clashes-is M B w i l1 (l ∷ ls) acc hw hi h1 small =
-    clashes-is M B w i l1 ls (bitOr acc (clashWord M B w (bitXor l1 l))) hw hi h1 (λ k m. small k (List·Memᴰ·tail m))
+    clashes-is M B w i l1 ls (bitOr acc (clashWord M B w (bitXor l1 l))) hw hi h1 (λ k m. small k (there m))
     ∙ ap (λ (c : Bool). c || rest) (bit-or-test acc (clashWord M B w (bitXor l1 l)) i ∙ ap (λ (c : Bool). eqb (bit acc i) 1 || c)
-    (clash-bit M B w i (bitXor l1 l) hw hi (xor-lt 8 l1 l h1 (small l (List·Memᴰ·head refl))) ∙ ap (marked M) (sym (xor-assoc (B * 256 + (w * 64 + i)) l1 l))))
+    (clash-bit M B w i (bitXor l1 l) hw hi (xor-lt 8 l1 l h1 (small l (here refl))) ∙ ap (marked M) (sym (xor-assoc (B * 256 + (w * 64 + i)) l1 l))))
     ∙ or-assoc (eqb (bit acc i) 1) (marked M (bitXor (bitXor (B * 256 + (w * 64 + i)) l1) l)) rest
   where
     rest : Bool

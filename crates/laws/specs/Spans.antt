@@ -2,7 +2,7 @@
 use mathlib.Core.Path.{_≡_, refl, sym, ap, ap₂, _∙_}
 use mathlib.Core.Logic.{_⊎_, inl, inr}
 use mathlib.Core.Bool.{Bool, true, false, _&&_, cond}
-use mathlib.Core.List.{List, [], _∷_, _++_, append-assoc, List·Memᴰ, List·Memᴰ·head, List·Memᴰ·tail, List·Memᴰ·cases-cons}
+use mathlib.Core.List.{List, [], _∷_, _++_, append-assoc, List·Memᴰ as Mem, List·Memᴰ·head as here, List·Memᴰ·tail as there, List·Memᴰ·cases-cons as cases-cons}
 use Prim.Native.Nat.{ℕ, suc, _+_, _-_, _≤_, _<_}
 use native.Mathlib.Numerals.{add-one}
 use native.Mathlib.Omega.{arith}
@@ -17,17 +17,17 @@ use Rattle.spec.specs.Memory.{lengthBefore, blobBytes}
 use Rattle.spec.specs.Decode.{lookup}
 use Rattle.spec.specs.Theorems.{Looking}
 use Rattle.running.specs.Joined.{bytesOf-token}
-use Rattle.laws.specs.Tests.{clash, either, any-find, any-none}
+use Rattle.laws.specs.Tests.{clash, Tested, either, any-find, any-none}
 use Rattle.laws.specs.Tokens.{rising-low}
 use Rattle.laws.specs.Placed.{above}
 use Rattle.laws.specs.Reads.{offset-at}
 
 -- ---- ids that no token has
 
-pub absent-bytes : (ts : List Token) (i : ℕ) → ((t : Token) → List·Memᴰ t ts → t .id ≡ i → ⊥) → bytesOf ts i ≡ []
+pub absent-bytes : (ts : List Token) (i : ℕ) → ((t : Token) → Mem t ts → t .id ≡ i → ⊥) → bytesOf ts i ≡ []
 unfolding bytesOf
 absent-bytes [] i h = refl
-absent-bytes (t ∷ ts) i h = rw (ne-eqb (t .id) i (h t (List·Memᴰ·head refl)), bytesOf) (absent-bytes ts i (λ u m. h u (List·Memᴰ·tail m)))
+absent-bytes (t ∷ ts) i h = rw (ne-eqb (t .id) i (h t (here refl)), bytesOf) (absent-bytes ts i (λ u m. h u (there m)))
 
 -- ---- offsets
 
@@ -60,7 +60,7 @@ spanned (t ∷ ts) low rise r i = go (either (ltb (t .id) i)) (either (eqb (t .i
     blob : blobBytes (t ∷ ts) ++ r ≡ t .bytes ++ (blobBytes ts ++ r)
     blob = unfold blobBytes each in append-assoc (t .bytes) (blobBytes ts) r
 
-    go : (ltb (t .id) i ≡ true) ⊎ (ltb (t .id) i ≡ false) → (eqb (t .id) i ≡ true) ⊎ (eqb (t .id) i ≡ false) → Span ts r i → Span (t ∷ ts) r i
+    go : Tested (ltb (t .id) i) → Tested (eqb (t .id) i) → Span ts r i → Span (t ∷ ts) r i
     go (inl e) q s =
         let h = ltb-true (t .id) i e in
         let b : bytesOf (t ∷ ts) i ≡ bytesOf ts i = unfold bytesOf in rw (ne-eqb (t .id) i (λ z. omega arith)) in
@@ -97,19 +97,19 @@ spanned (t ∷ ts) low rise r i = go (either (ltb (t .id) i)) (either (eqb (t .i
           next = let u = ap length b in omega arith;
         }
       where
-        other : i < t .id → (u : Token) → List·Memᴰ u (t ∷ ts) → u .id ≡ i → ⊥
-        other above u m j = at (List·Memᴰ·cases-cons m)
+        other : i < t .id → (u : Token) → Mem u (t ∷ ts) → u .id ≡ i → ⊥
+        other above u m j = at (cases-cons m)
           where
-            at : (u ≡ t) ⊎ List·Memᴰ u ts → ⊥
+            at : (u ≡ t) ⊎ Mem u ts → ⊥
             at (inl k) = let z = ap (λ (w : Token). w .id) k in omega arith
             at (inr k) = let z = rising-low ts (t .id) (rise .1) k in omega arith
 
 -- "the last is the total"
-pub before-all : (ts : List Token) (i : ℕ) → ((t : Token) → List·Memᴰ t ts → t .id < i) → lengthBefore ts i ≡ length (blobBytes ts)
+pub before-all : (ts : List Token) (i : ℕ) → ((t : Token) → Mem t ts → t .id < i) → lengthBefore ts i ≡ length (blobBytes ts)
 before-all [] i h = unfold lengthBefore blobBytes in refl
 before-all (t ∷ ts) i h =
-    let a = before-below ts i t (h t (List·Memᴰ·head refl)) in
-    let b = before-all ts i (λ u m. h u (List·Memᴰ·tail m)) in
+    let a = before-below ts i t (h t (here refl)) in
+    let b = before-all ts i (λ u m. h u (there m)) in
     let c : length (blobBytes (t ∷ ts)) ≡ length (t .bytes) + length (blobBytes ts) = unfold blobBytes each in length-append (t .bytes) (blobBytes ts) in
     omega arith
 
@@ -117,7 +117,7 @@ pub before-le : (ts : List Token) (i : ℕ) → lengthBefore ts i ≤ length (bl
 before-le [] i = unfold lengthBefore blobBytes in omega arith
 before-le (t ∷ ts) i = go (either (ltb (t .id) i)) (before-le ts i) (unfold blobBytes each in length-append (t .bytes) (blobBytes ts))
   where
-    go : (ltb (t .id) i ≡ true) ⊎ (ltb (t .id) i ≡ false) → lengthBefore ts i ≤ length (blobBytes ts)
+    go : Tested (ltb (t .id) i) → lengthBefore ts i ≤ length (blobBytes ts)
         → length (blobBytes (t ∷ ts)) ≡ length (t .bytes) + length (blobBytes ts) → lengthBefore (t ∷ ts) i ≤ length (blobBytes (t ∷ ts))
     go (inl e) h l = let a = before-below ts i t (ltb-true (t .id) i e) in omega arith
     go (inr e) h l = let a = before-above ts i t (ltb-false (t .id) i e) in omega arith
@@ -129,11 +129,11 @@ pub not-present : (ts : List Token) (i : ℕ) → present ts i ≡ false → byt
 unfolding present
 not-present ts i e = absent-bytes ts i (λ t m q. clash (eq-eqb (t .id) i q) (any-none (λ (t : Token). eqb (t .id) i) e m))
 
-present-cases : (ts : List Token) (i : ℕ) → ((t : Token) × List·Memᴰ t ts × (t .id ≡ i)) ⊎ (present ts i ≡ false)
+present-cases : (ts : List Token) (i : ℕ) → ((t : Token) × Mem t ts × (t .id ≡ i)) ⊎ (present ts i ≡ false)
 unfolding present
 present-cases ts i = go (either (present ts i))
   where
-    go : (present ts i ≡ true) ⊎ (present ts i ≡ false) → ((t : Token) × List·Memᴰ t ts × (t .id ≡ i)) ⊎ (present ts i ≡ false)
+    go : Tested (present ts i) → ((t : Token) × Mem t ts × (t .id ≡ i)) ⊎ (present ts i ≡ false)
     go (inl e) = let (t, m, q) = any-find (λ (t : Token). eqb (t .id) i) ts e in inl (t, m, eqb-true (t .id) i q)
     go (inr e) = inr e
 
@@ -141,14 +141,14 @@ module _ (ts : List Token) (v : Valid ts) (i : ℕ) where
   pub bytes-short : length (bytesOf ts i) ≤ 255
   bytes-short = go (present-cases ts i)
     where
-      go : ((t : Token) × List·Memᴰ t ts × (t .id ≡ i)) ⊎ (present ts i ≡ false) → length (bytesOf ts i) ≤ 255
+      go : ((t : Token) × Mem t ts × (t .id ≡ i)) ⊎ (present ts i ≡ false) → length (bytesOf ts i) ≤ 255
       go (inl (t, m, q)) = omega (arith, ap length (ap (bytesOf ts) (sym q) ∙ bytesOf-token ts v t m), v .short t m)
       go (inr f) = omega (arith, ap length (not-present ts i f))
 
   pub present-bytes : present ts i ≡ true → 1 ≤ length (bytesOf ts i)
   present-bytes e = go (present-cases ts i)
     where
-      go : ((t : Token) × List·Memᴰ t ts × (t .id ≡ i)) ⊎ (present ts i ≡ false) → 1 ≤ length (bytesOf ts i)
+      go : ((t : Token) × Mem t ts × (t .id ≡ i)) ⊎ (present ts i ≡ false) → 1 ≤ length (bytesOf ts i)
       go (inl (t, m, q)) = omega (arith, ap length (ap (bytesOf ts) (sym q) ∙ bytesOf-token ts v t m), v .nonempty t m)
       go (inr f) = absurd (clash e f)
 
@@ -167,7 +167,7 @@ looking m ts L i = go (either (ltb i 65536))
     E : ℕ
     E = getD (m .offsets) (i + 1) 0
 
-    go : (ltb i 65536 ≡ true) ⊎ (ltb i 65536 ≡ false)
+    go : Tested (ltb i 65536)
         → cond (ltb i 65536 && (leb A E && (leb E (length (m .blob)) && leb (E - A) 255))) (take (E - A) (drop A (m .blob))) [] ≡ bytesOf ts i
     go (inr e) =
         let h = ltb-false i 65536 e in

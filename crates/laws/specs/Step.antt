@@ -2,7 +2,7 @@
 use mathlib.Core.Path.{_≡_, refl, sym, ap, ap₂, _∙_, subst}
 use mathlib.Core.Logic.{_⊎_, inl, inr}
 use mathlib.Core.Bool.{Bool, true, false, not, _&&_, cond, and-false}
-use mathlib.Core.List.{List, [], _∷_, _++_, append-nil, append-assoc, List·Memᴰ, List·Memᴰ·head, List·Memᴰ·tail, List·Memᴰ·not-nil, List·Memᴰ·cases-cons}
+use mathlib.Core.List.{List, [], _∷_, _++_, append-nil, append-assoc, List·Memᴰ as Mem, List·Memᴰ·head as here, List·Memᴰ·tail as there, List·Memᴰ·cases-cons as cases-cons, List·Memᴰ·not-nil as not-nil}
 use Prim.Native.Nat.{ℕ, _+_, _/_, _%_, _≤_, _<_}
 use native.Mathlib.Omega.{arith}
 use lib.Bits.{bitXor}
@@ -15,7 +15,7 @@ use Rattle.spec.specs.Trie.{nodes, labels, order}
 use Rattle.spec.specs.Layout.{Put, choose, put, place, baseOf, pack, slotWord, puts, wordOf, tableAt}
 use Rattle.spec.specs.Valid.{Valid}
 use Rattle.spec.specs.Match.{baseIn, idIn, goes}
-use Rattle.laws.specs.Tests.{clash, either, same-eq, same-refl, has-mem, mem-has, mem-pos}
+use Rattle.laws.specs.Tests.{clash, Tested, either, same-eq, same-refl, has-mem, mem-has, mem-pos}
 use Rattle.laws.specs.Tokens.{id-pos, id-low, id-bound}
 use Rattle.laws.specs.Nodes.{IsNode, node-is, is-node, label-node, node-label, labels-small, order-mem, order-find}
 use Rattle.laws.specs.Placed.{Good, place-good}
@@ -23,50 +23,55 @@ use Rattle.laws.specs.Slots.{hit, Owner, owner, ours, block-zero}
 
 -- ---- what is placed
 
-put-keeps : (L : List ℕ → List ℕ) (ps : List (List ℕ)) (xs : List Put) {x : Put} → List·Memᴰ x xs → List·Memᴰ x (fold (put L) xs ps)
+put-keeps : (L : List ℕ → List ℕ) (ps : List (List ℕ)) (xs : List Put) {x : Put} → Mem x xs → Mem x (fold (put L) xs ps)
 unfolding fold put
 put-keeps L [] xs m = m
-put-keeps L (p ∷ ps) xs m = put-keeps L ps (put L xs p) (List·Memᴰ·tail m)
+put-keeps L (p ∷ ps) xs m = put-keeps L ps (put L xs p) (there m)
 
-put-has : (L : List ℕ → List ℕ) (xs : List Put) {p : List ℕ} {ps : List (List ℕ)} → List·Memᴰ p ps → (x : Put) × List·Memᴰ x (fold (put L) xs ps) × (x .node ≡ p)
+put-has : (L : List ℕ → List ℕ) (xs : List Put) {p : List ℕ} {ps : List (List ℕ)} → Mem p ps → (x : Put) × Mem x (fold (put L) xs ps) × (x .node ≡ p)
 unfolding fold put
-put-has L xs (List·Memᴰ·head {x = q} {xs = ps} e) = (_, put-keeps L ps (put L xs q) (List·Memᴰ·head refl), sym e)
-put-has L xs (List·Memᴰ·tail {x = q} {xs = ps} m) = put-has L (put L xs q) m
+put-has L xs (here {x = q} {xs = ps} e) = (_, put-keeps L ps (put L xs q) (here refl), sym e)
+put-has L xs (there {x = q} {xs = ps} m) = put-has L (put L xs q) m
 
-pub put-find : (L : List ℕ → List ℕ) (ps : List (List ℕ)) (xs : List Put) {x : Put} → List·Memᴰ x (fold (put L) xs ps) → List·Memᴰ x xs ⊎ List·Memᴰ (x .node) ps
+pub put-find : (L : List ℕ → List ℕ) (ps : List (List ℕ)) (xs : List Put) {x : Put} → Mem x (fold (put L) xs ps) → Mem x xs ⊎ Mem (x .node) ps
 unfolding fold put
 put-find L [] xs m = inl m
 put-find L (p ∷ ps) xs {x} m = go (put-find L ps (put L xs p) m)
   where
-    go : List·Memᴰ x (put L xs p) ⊎ List·Memᴰ (x .node) ps → List·Memᴰ x xs ⊎ List·Memᴰ (x .node) (p ∷ ps)
-    go (inr n) = inr (List·Memᴰ·tail n)
-    go (inl n) = at (List·Memᴰ·cases-cons n)
+    go : Mem x (put L xs p) ⊎ Mem (x .node) ps → Mem x xs ⊎ Mem (x .node) (p ∷ ps)
+    go (inr n) = inr (there n)
+    go (inl n) = at (cases-cons n)
       where
-        at : (x ≡ record { node = p; base = choose L xs (L p) }) ⊎ List·Memᴰ x xs → List·Memᴰ x xs ⊎ List·Memᴰ (x .node) (p ∷ ps)
-        at (inl e) = inr (List·Memᴰ·head (ap (λ (z : Put). z .node) e))
+        at : (x ≡ record { node = p; base = choose L xs (L p) }) ⊎ Mem x xs → Mem x xs ⊎ Mem (x .node) (p ∷ ps)
+        at (inl e) = inr (here (ap (λ (z : Put). z .node) e))
         at (inr k) = inl k
 
+-- p is placed, at its base
 pub record Holds (xs : List Put) (p : List ℕ) : Type 0 where
   pub put : Put
-  pub mem : List·Memᴰ put xs
+  pub mem : Mem put xs
   pub node-eq : put .node ≡ p
   pub base-eq : baseOf xs p ≡ put .base
 
-pub base-cases : (xs : List Put) (p : List ℕ) → Holds xs p ⊎ ((baseOf xs p ≡ 0) × ((x : Put) → List·Memᴰ x xs → x .node ≡ p → ⊥))
+-- p is not placed
+abbrev pub Unheld : List Put → List ℕ → Type 0
+Unheld xs p = (baseOf xs p ≡ 0) × ((x : Put) → Mem x xs → x .node ≡ p → ⊥)
+
+pub base-cases : (xs : List Put) (p : List ℕ) → Holds xs p ⊎ Unheld xs p
 unfolding baseOf
-base-cases [] p = inr (refl, λ x m e. List·Memᴰ·not-nil m)
+base-cases [] p = inr (refl, λ x m e. not-nil m)
 base-cases (y ∷ xs) p = go (same p (y .node)) refl (base-cases xs p)
   where
-    go : (c : Bool) → same p (y .node) ≡ c → Holds xs p ⊎ ((baseOf xs p ≡ 0) × ((x : Put) → List·Memᴰ x xs → x .node ≡ p → ⊥))
-        → Holds (y ∷ xs) p ⊎ ((baseOf (y ∷ xs) p ≡ 0) × ((x : Put) → List·Memᴰ x (y ∷ xs) → x .node ≡ p → ⊥))
-    go true e r = inl (record { put = y; mem = List·Memᴰ·head refl; node-eq = sym (same-eq p (y .node) e); base-eq = ap (λ (c : Bool). cond c (y .base) (baseOf xs p)) e })
-    go false e (inl h) = inl (record { put = h .put; mem = List·Memᴰ·tail (h .mem); node-eq = h .node-eq; base-eq = ap (λ (c : Bool). cond c (y .base) (baseOf xs p)) e ∙ h .base-eq })
+    go : (c : Bool) → same p (y .node) ≡ c → Holds xs p ⊎ Unheld xs p
+        → Holds (y ∷ xs) p ⊎ Unheld (y ∷ xs) p
+    go true e r = inl (record { put = y; mem = here refl; node-eq = sym (same-eq p (y .node) e); base-eq = ap (λ (c : Bool). cond c (y .base) (baseOf xs p)) e })
+    go false e (inl h) = inl (record { put = h .put; mem = there (h .mem); node-eq = h .node-eq; base-eq = ap (λ (c : Bool). cond c (y .base) (baseOf xs p)) e ∙ h .base-eq })
     go false e (inr h) = inr (ap (λ (c : Bool). cond c (y .base) (baseOf xs p)) e ∙ h .0, other)
       where
-        other : (x : Put) → List·Memᴰ x (y ∷ xs) → x .node ≡ p → ⊥
-        other x m q = at (List·Memᴰ·cases-cons m)
+        other : (x : Put) → Mem x (y ∷ xs) → x .node ≡ p → ⊥
+        other x m q = at (cases-cons m)
           where
-            at : (x ≡ y) ⊎ List·Memᴰ x xs → ⊥
+            at : (x ≡ y) ⊎ Mem x xs → ⊥
             at (inl i) = clash (ap (λ (z : List ℕ). same p z) (ap (λ (z : Put). z .node) (sym i) ∙ q) ∙ same-refl p) e
             at (inr k) = h .1 x k q
 
@@ -78,14 +83,14 @@ module _ (ts : List Token) (v : Valid ts) where
   good = place-good (labels (nodes ts)) (labels-small ts v) (order (nodes ts))
 
   -- a node with a child is placed, and one without is not
-  pub placed : (p : List ℕ) → List·Memᴰ p (nodes ts) → 1 ≤ length (labels (nodes ts) p) → Holds (puts ts) p
+  pub placed : (p : List ℕ) → Mem p (nodes ts) → 1 ≤ length (labels (nodes ts) p) → Holds (puts ts) p
   unfolding puts place
   placed p m h = go (base-cases (puts ts) p)
     where
-      w : (x : Put) × List·Memᴰ x (puts ts) × (x .node ≡ p)
+      w : (x : Put) × Mem x (puts ts) × (x .node ≡ p)
       w = put-has (labels (nodes ts)) [] (order-mem (nodes ts) p m h)
 
-      go : Holds (puts ts) p ⊎ ((baseOf (puts ts) p ≡ 0) × ((x : Put) → List·Memᴰ x (puts ts) → x .node ≡ p → ⊥)) → Holds (puts ts) p
+      go : Holds (puts ts) p ⊎ Unheld (puts ts) p → Holds (puts ts) p
       go (inl k) = k
       go (inr k) = absurd (k .1 (w .0) (w .1) (w .2))
 
@@ -93,15 +98,15 @@ module _ (ts : List Token) (v : Valid ts) where
   unfolding puts place
   held-child p h = go (put-find (labels (nodes ts)) (order (nodes ts)) [] (h .mem))
     where
-      go : List·Memᴰ (h .put) [] ⊎ List·Memᴰ (h .put .node) (order (nodes ts)) → 1 ≤ length (labels (nodes ts) p)
-      go (inl k) = absurd (List·Memᴰ·not-nil k)
+      go : Mem (h .put) [] ⊎ Mem (h .put .node) (order (nodes ts)) → 1 ≤ length (labels (nodes ts) p)
+      go (inl k) = absurd (not-nil k)
       go (inr k) = subst (λ (z : List ℕ). 1 ≤ length (labels (nodes ts) z)) (h .node-eq) ((order-find (nodes ts) k) .1)
 
-  base-block : (xs : List Put) → Good (labels (nodes ts)) xs → {x : Put} → List·Memᴰ x xs → 1 ≤ x .base / 256
-  base-block [] g m = absurd (List·Memᴰ·not-nil m)
-  base-block (y ∷ ys) g {x} m = pick (List·Memᴰ·cases-cons m) (base-block ys (g .3))
+  base-block : (xs : List Put) → Good (labels (nodes ts)) xs → {x : Put} → Mem x xs → 1 ≤ x .base / 256
+  base-block [] g m = absurd (not-nil m)
+  base-block (y ∷ ys) g {x} m = pick (cases-cons m) (base-block ys (g .3))
     where
-      pick : (x ≡ y) ⊎ List·Memᴰ x ys → (List·Memᴰ x ys → 1 ≤ x .base / 256) → 1 ≤ x .base / 256
+      pick : (x ≡ y) ⊎ Mem x ys → (Mem x ys → 1 ≤ x .base / 256) → 1 ≤ x .base / 256
       pick (inl e) r = subst (λ (z : Put). 1 ≤ z .base / 256) (sym e) (g .0)
       pick (inr n) r = r n
 
@@ -123,7 +128,7 @@ module _ (ts : List Token) (v : Valid ts) where
   word-id p l h = let k = id-bound ts v p in omega arith
 
   -- a node's word is not 0
-  pub word-pos : (p : List ℕ) (l : ℕ) → List·Memᴰ p (nodes ts) → 1 ≤ wordOf ts p l
+  pub word-pos : (p : List ℕ) (l : ℕ) → Mem p (nodes ts) → 1 ≤ wordOf ts p l
   unfolding wordOf pack
   word-pos p l m = go (n .cut .rest) (n .cut .split)
     where
@@ -135,7 +140,7 @@ module _ (ts : List Token) (v : Valid ts) where
       go (c ∷ r) e =
           let len : length (p ++ (c ∷ [])) ≡ length p + 1 = length-append p (c ∷ []) in
           let two = n .cut .two in
-          let child : List·Memᴰ (p ++ (c ∷ [])) (nodes ts) = is-node ts (record { tok = n .tok; mem = n .mem; cut = record { rest = r; split = e ∙ sym (append-assoc p (c ∷ []) r); two = omega arith } }) in
+          let child : Mem (p ++ (c ∷ [])) (nodes ts) = is-node ts (record { tok = n .tok; mem = n .mem; cut = record { rest = r; split = e ∙ sym (append-assoc p (c ∷ []) r); two = omega arith } }) in
           let k = base-pos p (placed p m (mem-pos (node-label (nodes ts) p c child))) in
           omega arith
 
@@ -150,18 +155,18 @@ module _ (ts : List Token) (v : Valid ts) where
 
   -- ---- the theorem of one step
 
-  module _ (p : List ℕ) (m : List·Memᴰ p (nodes ts)) (b : ℕ) (hb : b < 256) where
-    pub step-word : List·Memᴰ (p ++ (b ∷ [])) (nodes ts) → tableAt ts (bitXor (baseOf (puts ts) p) b) ≡ wordOf ts (p ++ (b ∷ [])) b
+  module _ (p : List ℕ) (m : Mem p (nodes ts)) (b : ℕ) (hb : b < 256) where
+    pub step-word : Mem (p ++ (b ∷ [])) (nodes ts) → tableAt ts (bitXor (baseOf (puts ts) p) b) ≡ wordOf ts (p ++ (b ∷ [])) b
     unfolding tableAt
     step-word k =
-        let l : List·Memᴰ b (labels (nodes ts) p) = node-label (nodes ts) p b k in
+        let l : Mem b (labels (nodes ts) p) = node-label (nodes ts) p b k in
         let h = placed p m (mem-pos l) in
         let T : ℕ → ℕ = slotWord (labels (nodes ts)) (wordOf ts) (puts ts) in
         ap (λ (z : ℕ). T (bitXor z b)) (h .base-eq)
-        ∙ hit (labels (nodes ts)) (wordOf ts) b good (h .mem) (subst (λ (z : List ℕ). List·Memᴰ b (labels (nodes ts) z)) (sym (h .node-eq)) l)
+        ∙ hit (labels (nodes ts)) (wordOf ts) b good (h .mem) (subst (λ (z : List ℕ). Mem b (labels (nodes ts) z)) (sym (h .node-eq)) l)
         ∙ ap (λ (z : List ℕ). wordOf ts (z ++ (b ∷ [])) b) (h .node-eq)
 
-    pub step-none : (List·Memᴰ (p ++ (b ∷ [])) (nodes ts) → ⊥) → goes (tableAt ts (bitXor (baseOf (puts ts) p) b)) b ≡ false
+    pub step-none : (Mem (p ++ (b ∷ [])) (nodes ts) → ⊥) → goes (tableAt ts (bitXor (baseOf (puts ts) p) b)) b ≡ false
     unfolding tableAt
     step-none none-there = goes-not (T (bitXor (baseOf (puts ts) p) b)) b (go (base-cases (puts ts) p))
       where
@@ -175,16 +180,16 @@ module _ (ts : List Token) (v : Valid ts) where
         held h (inl z) = inl z
         held h (inr o) = inr (λ e.
             let same-lab : o .lab ≡ b = sym (word-low (o .own .node ++ (o .lab ∷ [])) (o .lab) (labels-small ts v (o .own .node) (o .lab) (o .child))) ∙ ap (λ (z : ℕ). z % 256) (sym (o .is)) ∙ e in
-            none-there (label-node (nodes ts) p b (subst (λ (z : List ℕ). List·Memᴰ b (L z)) (h .node-eq) (ours L (wordOf ts) b good (h .mem) o same-lab))))
+            none-there (label-node (nodes ts) p b (subst (λ (z : List ℕ). Mem b (L z)) (h .node-eq) (ours L (wordOf ts) b good (h .mem) o same-lab))))
 
-        go : Holds (puts ts) p ⊎ ((baseOf (puts ts) p ≡ 0) × ((x : Put) → List·Memᴰ x (puts ts) → x .node ≡ p → ⊥)) → (T (bitXor (baseOf (puts ts) p) b) ≡ 0) ⊎ (T (bitXor (baseOf (puts ts) p) b) % 256 ≡ b → ⊥)
+        go : Holds (puts ts) p ⊎ Unheld (puts ts) p → (T (bitXor (baseOf (puts ts) p) b) ≡ 0) ⊎ (T (bitXor (baseOf (puts ts) p) b) % 256 ≡ b → ⊥)
         go (inl h) = subst (λ (z : ℕ). (T (bitXor z b) ≡ 0) ⊎ (T (bitXor z b) % 256 ≡ b → ⊥)) (sym (h .base-eq)) (held h (owner L (wordOf ts) (puts ts) (bitXor (h .put .base) b)))
         go (inr h) = inl (ap (λ (z : ℕ). T (bitXor z b)) (h .0) ∙ block-zero L (wordOf ts) (puts ts) (labels-small ts v) good b hb)
 
     pub step-goes : goes (tableAt ts (bitXor (baseOf (puts ts) p) b)) b ≡ has (nodes ts) (p ++ (b ∷ []))
     step-goes = go (either (has (nodes ts) (p ++ (b ∷ []))))
       where
-        go : (has (nodes ts) (p ++ (b ∷ [])) ≡ true) ⊎ (has (nodes ts) (p ++ (b ∷ [])) ≡ false) → goes (tableAt ts (bitXor (baseOf (puts ts) p) b)) b ≡ has (nodes ts) (p ++ (b ∷ []))
+        go : Tested (has (nodes ts) (p ++ (b ∷ []))) → goes (tableAt ts (bitXor (baseOf (puts ts) p) b)) b ≡ has (nodes ts) (p ++ (b ∷ []))
         go (inl e) =
             let k = has-mem (nodes ts) (p ++ (b ∷ [])) e in
             let w = step-word k in

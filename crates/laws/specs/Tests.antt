@@ -2,7 +2,7 @@
 use mathlib.Core.Path.{_≡_, refl, sym, ap, ap₂, _∙_, subst}
 use mathlib.Core.Logic.{_⊎_, inl, inr}
 use mathlib.Core.Bool.{Bool, true, false, _&&_, _||_, cond, true≢false, false≢true, or-assoc}
-use mathlib.Core.List.{List, [], _∷_, _++_, List·Memᴰ, List·Memᴰ·head, List·Memᴰ·tail, List·Memᴰ·not-nil, List·Memᴰ·cases-cons, List·Memᴰ·append-cases, Memᴰ·append-left, Memᴰ·append-right, Memᴰ·cast}
+use mathlib.Core.List.{List, [], _∷_, _++_, List·Memᴰ as Mem, List·Memᴰ·head as here, List·Memᴰ·tail as there, List·Memᴰ·cases-cons as cases-cons, List·Memᴰ·not-nil as not-nil, List·Memᴰ·append-cases as append-cases, Memᴰ·append-left as mem-left, Memᴰ·append-right as mem-right, Memᴰ·cast as mem-cast}
 use Prim.Native.Nat.{ℕ, _≤_}
 use native.Mathlib.Omega.{arith}
 use lib.Dec.{eqb}
@@ -15,7 +15,11 @@ use Rattle.spec.specs.Lists.{any, keep, each, same, has, byteIn}
 pub clash : {b : Bool} → b ≡ true → b ≡ false → ⊥
 clash p q = true≢false (sym p ∙ q)
 
-pub either : (b : Bool) → (b ≡ true) ⊎ (b ≡ false)
+-- a test came out one way or the other
+abbrev pub Tested : Bool → Type 0
+Tested b = (b ≡ true) ⊎ (b ≡ false)
+
+pub either : (b : Bool) → Tested b
 either true = inl refl
 either false = inr refl
 
@@ -55,24 +59,24 @@ iff-eq false false f g = refl
 -- ---- any
 
 module _ {A : Type 0} (f : A → Bool) where
-  pub any-find : (l : List A) → any f l ≡ true → (x : A) × List·Memᴰ x l × (f x ≡ true)
+  pub any-find : (l : List A) → any f l ≡ true → (x : A) × Mem x l × (f x ≡ true)
   unfolding any
   any-find [] e = absurd (false≢true e)
   any-find (y ∷ l) e = go (or-cases (f y) (any f l) e) (any-find l)
     where
-      go : (f y ≡ true) ⊎ (any f l ≡ true) → (any f l ≡ true → (x : A) × List·Memᴰ x l × (f x ≡ true)) → (x : A) × List·Memᴰ x (y ∷ l) × (f x ≡ true)
-      go (inl p) r = (y, List·Memᴰ·head refl, p)
-      go (inr p) r = ((r p) .0, List·Memᴰ·tail ((r p) .1), (r p) .2)
+      go : (f y ≡ true) ⊎ (any f l ≡ true) → (any f l ≡ true → (x : A) × Mem x l × (f x ≡ true)) → (x : A) × Mem x (y ∷ l) × (f x ≡ true)
+      go (inl p) r = (y, here refl, p)
+      go (inr p) r = ((r p) .0, there ((r p) .1), (r p) .2)
 
-  pub any-mem : {x : A} {l : List A} → List·Memᴰ x l → f x ≡ true → any f l ≡ true
+  pub any-mem : {x : A} {l : List A} → Mem x l → f x ≡ true → any f l ≡ true
   unfolding any
-  any-mem (List·Memᴰ·head {x = y} {xs = l} e) p = or-l (f y) (any f l) (ap f (sym e) ∙ p)
-  any-mem (List·Memᴰ·tail {x = y} {xs = l} m) p = or-r (f y) (any f l) (any-mem m p)
+  any-mem (here {x = y} {xs = l} e) p = or-l (f y) (any f l) (ap f (sym e) ∙ p)
+  any-mem (there {x = y} {xs = l} m) p = or-r (f y) (any f l) (any-mem m p)
 
-  pub any-none : {x : A} {l : List A} → any f l ≡ false → List·Memᴰ x l → f x ≡ false
+  pub any-none : {x : A} {l : List A} → any f l ≡ false → Mem x l → f x ≡ false
   any-none {x} e m = no-true (f x) (λ p. clash (any-mem m p) e)
 
-  pub none-any : (l : List A) → ((x : A) → List·Memᴰ x l → f x ≡ true → ⊥) → any f l ≡ false
+  pub none-any : (l : List A) → ((x : A) → Mem x l → f x ≡ true → ⊥) → any f l ≡ false
   none-any l h = no-true (any f l) (λ p. let r = any-find l p in h (r .0) (r .1) (r .2))
 
 pub any-append : {A : Type 0} (f : A → Bool) (s t : List A) → any f (s ++ t) ≡ (any f s || any f t)
@@ -82,11 +86,11 @@ any-append f (x ∷ s) t = ap (λ (c : Bool). f x || c) (any-append f s t) ∙ s
 
 -- ---- bytes in a list
 
-pub in-mem : (l : List ℕ) (b : ℕ) → byteIn l b ≡ true → List·Memᴰ b l
+pub in-mem : (l : List ℕ) (b : ℕ) → byteIn l b ≡ true → Mem b l
 unfolding byteIn
-in-mem l b e = let r = any-find (eqb b) l e in Memᴰ·cast (eqb-true b (r .0) (r .2)) (r .1)
+in-mem l b e = let r = any-find (eqb b) l e in mem-cast (eqb-true b (r .0) (r .2)) (r .1)
 
-pub mem-in : {l : List ℕ} {b : ℕ} → List·Memᴰ b l → byteIn l b ≡ true
+pub mem-in : {l : List ℕ} {b : ℕ} → Mem b l → byteIn l b ≡ true
 unfolding byteIn
 mem-in {b} m = any-mem (eqb b) m (eq-eqb b b refl)
 
@@ -104,59 +108,59 @@ unfolding same
 same-refl [] = refl
 same-refl (x ∷ p) = ap₂ _&&_ (eq-eqb x x refl) (same-refl p)
 
-pub has-mem : (ps : List (List ℕ)) (p : List ℕ) → has ps p ≡ true → List·Memᴰ p ps
+pub has-mem : (ps : List (List ℕ)) (p : List ℕ) → has ps p ≡ true → Mem p ps
 unfolding has
-has-mem ps p e = let r = any-find (same p) ps e in Memᴰ·cast (same-eq p (r .0) (r .2)) (r .1)
+has-mem ps p e = let r = any-find (same p) ps e in mem-cast (same-eq p (r .0) (r .2)) (r .1)
 
-pub mem-has : {ps : List (List ℕ)} {p : List ℕ} → List·Memᴰ p ps → has ps p ≡ true
+pub mem-has : {ps : List (List ℕ)} {p : List ℕ} → Mem p ps → has ps p ≡ true
 unfolding has
 mem-has {p} m = any-mem (same p) m (same-refl p)
 
 -- ---- membership in what is built
 
 module _ {A B : Type 0} (f : A → List B) where
-  pub each-mem : {x : A} {l : List A} {y : B} → List·Memᴰ x l → List·Memᴰ y (f x) → List·Memᴰ y (each f l)
+  pub each-mem : {x : A} {l : List A} {y : B} → Mem x l → Mem y (f x) → Mem y (each f l)
   unfolding each
-  each-mem {x} {y} (List·Memᴰ·head {x = z} {xs = l} e) m = Memᴰ·append-left (each f l) (subst (λ (w : A). List·Memᴰ y (f w)) e m)
-  each-mem (List·Memᴰ·tail {x = z} {xs = l} n) m = Memᴰ·append-right (f z) (each-mem n m)
+  each-mem {x} {y} (here {x = z} {xs = l} e) m = mem-left (each f l) (subst (λ (w : A). Mem y (f w)) e m)
+  each-mem (there {x = z} {xs = l} n) m = mem-right (f z) (each-mem n m)
 
-  pub each-find : (l : List A) {y : B} → List·Memᴰ y (each f l) → (x : A) × List·Memᴰ x l × List·Memᴰ y (f x)
+  pub each-find : (l : List A) {y : B} → Mem y (each f l) → (x : A) × Mem x l × Mem y (f x)
   unfolding each
-  each-find [] m = absurd (List·Memᴰ·not-nil m)
-  each-find (z ∷ l) {y} m = go (List·Memᴰ·append-cases (f z) m) (each-find l)
+  each-find [] m = absurd (not-nil m)
+  each-find (z ∷ l) {y} m = go (append-cases (f z) m) (each-find l)
     where
-      go : List·Memᴰ y (f z) ⊎ List·Memᴰ y (each f l) → (List·Memᴰ y (each f l) → (x : A) × List·Memᴰ x l × List·Memᴰ y (f x)) → (x : A) × List·Memᴰ x (z ∷ l) × List·Memᴰ y (f x)
-      go (inl n) r = (z, List·Memᴰ·head refl, n)
-      go (inr n) r = ((r n) .0, List·Memᴰ·tail ((r n) .1), (r n) .2)
+      go : Mem y (f z) ⊎ Mem y (each f l) → (Mem y (each f l) → (x : A) × Mem x l × Mem y (f x)) → (x : A) × Mem x (z ∷ l) × Mem y (f x)
+      go (inl n) r = (z, here refl, n)
+      go (inr n) r = ((r n) .0, there ((r n) .1), (r n) .2)
 
 module _ {A : Type 0} (f : A → Bool) where
-  pub keep-mem : {x : A} {l : List A} → List·Memᴰ x l → f x ≡ true → List·Memᴰ x (keep f l)
+  pub keep-mem : {x : A} {l : List A} → Mem x l → f x ≡ true → Mem x (keep f l)
   unfolding keep
-  keep-mem {x} (List·Memᴰ·head {x = z} {xs = l} e) t = go (f z) (ap f (sym e) ∙ t)
+  keep-mem {x} (here {x = z} {xs = l} e) t = go (f z) (ap f (sym e) ∙ t)
     where
-      go : (c : Bool) → c ≡ true → List·Memᴰ x (cond c (z ∷ keep f l) (keep f l))
-      go true p = List·Memᴰ·head e
+      go : (c : Bool) → c ≡ true → Mem x (cond c (z ∷ keep f l) (keep f l))
+      go true p = here e
       go false p = absurd (false≢true p)
-  keep-mem {x} (List·Memᴰ·tail {x = z} {xs = l} m) t = go (f z) (keep-mem m t)
+  keep-mem {x} (there {x = z} {xs = l} m) t = go (f z) (keep-mem m t)
     where
-      go : (c : Bool) → List·Memᴰ x (keep f l) → List·Memᴰ x (cond c (z ∷ keep f l) (keep f l))
-      go true r = List·Memᴰ·tail r
+      go : (c : Bool) → Mem x (keep f l) → Mem x (cond c (z ∷ keep f l) (keep f l))
+      go true r = there r
       go false r = r
 
-  pub keep-find : (l : List A) {x : A} → List·Memᴰ x (keep f l) → List·Memᴰ x l × (f x ≡ true)
+  pub keep-find : (l : List A) {x : A} → Mem x (keep f l) → Mem x l × (f x ≡ true)
   unfolding keep
-  keep-find [] m = absurd (List·Memᴰ·not-nil m)
+  keep-find [] m = absurd (not-nil m)
   keep-find (z ∷ l) {x} m = go (f z) refl m (keep-find l)
     where
-      go : (c : Bool) → f z ≡ c → List·Memᴰ x (cond c (z ∷ keep f l) (keep f l)) → (List·Memᴰ x (keep f l) → List·Memᴰ x l × (f x ≡ true)) → List·Memᴰ x (z ∷ l) × (f x ≡ true)
-      go true p n r = at (List·Memᴰ·cases-cons n)
+      go : (c : Bool) → f z ≡ c → Mem x (cond c (z ∷ keep f l) (keep f l)) → (Mem x (keep f l) → Mem x l × (f x ≡ true)) → Mem x (z ∷ l) × (f x ≡ true)
+      go true p n r = at (cases-cons n)
         where
-          at : (x ≡ z) ⊎ List·Memᴰ x (keep f l) → List·Memᴰ x (z ∷ l) × (f x ≡ true)
-          at (inl e) = (List·Memᴰ·head e, ap f e ∙ p)
-          at (inr k) = (List·Memᴰ·tail ((r k) .0), (r k) .1)
-      go false p n r = (List·Memᴰ·tail ((r n) .0), (r n) .1)
+          at : (x ≡ z) ⊎ Mem x (keep f l) → Mem x (z ∷ l) × (f x ≡ true)
+          at (inl e) = (here e, ap f e ∙ p)
+          at (inr k) = (there ((r k) .0), (r k) .1)
+      go false p n r = (there ((r n) .0), (r n) .1)
 
 -- a list with a member is not empty
-pub mem-pos : {A : Type 0} {x : A} {l : List A} → List·Memᴰ x l → 1 ≤ length l
-mem-pos (List·Memᴰ·head e) = omega arith
-mem-pos (List·Memᴰ·tail m) = omega arith
+pub mem-pos : {A : Type 0} {x : A} {l : List A} → Mem x l → 1 ≤ length l
+mem-pos (here e) = omega arith
+mem-pos (there m) = omega arith

@@ -3,7 +3,7 @@
 use mathlib.Core.Path.{_≡_, refl, sym, ap, ap₂, _∙_, subst}
 use mathlib.Core.Logic.{_⊎_, inl, inr}
 use mathlib.Core.Bool.{Bool, true, false, not, _&&_, cond}
-use mathlib.Core.List.{List, [], _∷_, _++_, append-nil, append-assoc, List·Memᴰ, head-eq-of-cons-eq, nil≢cons}
+use mathlib.Core.List.{List, [], _∷_, _++_, append-nil, append-assoc, head-eq-of-cons-eq, nil≢cons, List·Memᴰ as Mem}
 use Prim.Native.Nat.{ℕ, zero, suc, _+_, _*_, _≤_, _<_}
 use native.Mathlib.Numerals.{add-one}
 use native.Mathlib.Omega.{arith}
@@ -19,8 +19,8 @@ use Rattle.spec.specs.Layout.{baseOf, puts, wordOf, tableAt, rootAt}
 use Rattle.spec.specs.Valid.{Valid}
 use Rattle.spec.specs.Memory.{Memory, Loaded}
 use Rattle.spec.specs.Match.{baseIn, idIn, goes, Walk, noWalk, onto, follow, enter, walkOn}
-use Rattle.laws.specs.Tests.{clash, either, and-r, has-mem, mem-has, mem-pos}
-use Rattle.laws.specs.Tokens.{id-cases, id-pos, id-low}
+use Rattle.laws.specs.Tests.{clash, Tested, either, and-r, has-mem, mem-has, mem-pos}
+use Rattle.laws.specs.Tokens.{TokenOf, id-cases, id-pos, id-low}
 use Rattle.laws.specs.Nodes.{Cut, node-is, node-label}
 use Rattle.laws.specs.Step.{placed, base-pos, word-base, word-id, word-pos, step-word, step-goes}
 use Rattle.laws.specs.Reads.{root-at, table-at}
@@ -48,8 +48,8 @@ module _ (table : List ℕ) (b : ℕ) (s : List ℕ) (k : Walk) where
 -- i and n are the id and the length of the longest token of two or more bytes that begins p, 0 and 0 if there is none
 pub record Passed (ts : List Token) (p : List ℕ) (i n : ℕ) : Type 0 where
   pub none : i ≡ 0 → n ≡ 0
-  pub token : 1 ≤ i → (t : Token) × List·Memᴰ t ts × Cut (t .bytes) p × (t .id ≡ i) × (length (t .bytes) ≡ n)
-  pub longest : (t : Token) → List·Memᴰ t ts → Cut (t .bytes) p → length (t .bytes) ≤ n
+  pub token : 1 ≤ i → (t : Token) × Mem t ts × Cut (t .bytes) p × (t .id ≡ i) × (length (t .bytes) ≡ n)
+  pub longest : (t : Token) → Mem t ts → Cut (t .bytes) p → length (t .bytes) ≤ n
 
 pub cut-length : {q s : List ℕ} → Cut q s → length q ≤ length s
 cut-length {q} c = omega (arith, simp length-append at (ap length (c .split)))
@@ -73,7 +73,7 @@ passed-start ts a = record { none = λ e. refl; token = λ h. absurd (omega arit
 
 -- longer strings, where no token reaches beyond
 pub passed-more : {ts : List Token} (p r : List ℕ) {i n : ℕ} → Passed ts p i n
-    → ((t : Token) → List·Memᴰ t ts → Cut (t .bytes) (p ++ r) → length (t .bytes) ≤ length p) → Passed ts (p ++ r) i n
+    → ((t : Token) → Mem t ts → Cut (t .bytes) (p ++ r) → length (t .bytes) ≤ length p) → Passed ts (p ++ r) i n
 passed-more p r k h = record {
   none = k .none;
   token = λ l. let (t, m, c, e, f) = k .token l in (t, m, cut-append r c, e, f);
@@ -92,11 +92,11 @@ module _ {ts : List Token} (v : Valid ts) where
       len : length q ≡ suc (length p)
       len = length-append p (b ∷ []) ∙ add-one (length p)
 
-      go : (c : Bool) → eqb (idOf ts q) 0 ≡ c → (idOf ts q ≡ 0) ⊎ ((t : Token) × List·Memᴰ t ts × (t .bytes ≡ q) × (idOf ts q ≡ t .id))
+      go : (c : Bool) → eqb (idOf ts q) 0 ≡ c → (idOf ts q ≡ 0) ⊎ TokenOf ts q
           → Passed ts q (cond c i (idOf ts q)) (cond c n (suc (length p)))
       go true e w = passed-more p (b ∷ []) k (λ t m d. at t m d (either (leb (length (t .bytes)) (length p))))
         where
-          at : (t : Token) → List·Memᴰ t ts → Cut (t .bytes) q → (leb (length (t .bytes)) (length p) ≡ true) ⊎ (leb (length (t .bytes)) (length p) ≡ false)
+          at : (t : Token) → Mem t ts → Cut (t .bytes) q → Tested (leb (length (t .bytes)) (length p))
               → length (t .bytes) ≤ length p
           at t m d (inl x) = leb-true (length (t .bytes)) (length p) x
           at t m d (inr x) =
@@ -123,10 +123,10 @@ pub record Stands (ts : List Token) (p : List ℕ) (k : Walk) : Type 0 where
 pub record Reached (ts : List Token) (s : List ℕ) (k : Walk) : Type 0 where
   pub node : List ℕ
   pub rest : List ℕ
-  pub mem : List·Memᴰ node (nodes ts)
+  pub mem : Mem node (nodes ts)
   pub split : s ≡ node ++ rest
   pub stands : Stands ts node k
-  pub stops : (b : ℕ) (r : List ℕ) → rest ≡ b ∷ r → List·Memᴰ (node ++ (b ∷ [])) (nodes ts) → ⊥
+  pub stops : (b : ℕ) (r : List ℕ) → rest ≡ b ∷ r → Mem (node ++ (b ∷ [])) (nodes ts) → ⊥
 
 module _ {ts : List Token} (v : Valid ts) where
   onto-stands : (p : List ℕ) (b : ℕ) (k : Walk) (l : ℕ) → l < 256 → 1 ≤ length p → Passed ts p (k .id) (k .len)
@@ -149,14 +149,14 @@ module _ {ts : List Token} (v : Valid ts) where
       go false r = record { used-eq = len; base-eq = refl; passed = r }
 
   -- a node of base 0 has no child
-  leaf-stops : (p : List ℕ) → List·Memᴰ p (nodes ts) → baseOf (puts ts) p ≡ 0 → (b : ℕ) → List·Memᴰ (p ++ (b ∷ [])) (nodes ts) → ⊥
+  leaf-stops : (p : List ℕ) → Mem p (nodes ts) → baseOf (puts ts) p ≡ 0 → (b : ℕ) → Mem (p ++ (b ∷ [])) (nodes ts) → ⊥
   leaf-stops p m z b k = let h = base-pos ts v p (placed ts v p m (mem-pos (node-label (nodes ts) p b k))) in omega arith
 
-  pub node-long : {p : List ℕ} → List·Memᴰ p (nodes ts) → 2 ≤ length p
+  pub node-long : {p : List ℕ} → Mem p (nodes ts) → 2 ≤ length p
   node-long m = (node-is ts m) .cut .two
 
   module _ (table : List ℕ) (read : (i : ℕ) → getD table i 0 ≡ tableAt ts i) where
-    pub follow-reaches : (s p : List ℕ) (k : Walk) → Bytes s → List·Memᴰ p (nodes ts) → Stands ts p k → Reached ts (p ++ s) (follow table s k)
+    pub follow-reaches : (s p : List ℕ) (k : Walk) → Bytes s → Mem p (nodes ts) → Stands ts p k → Reached ts (p ++ s) (follow table s k)
     unfolding follow
     follow-reaches [] p k small m w = record { node = p; rest = []; mem = m; split = refl; stands = w; stops = λ b r e. absurd (nil≢cons e) }
     follow-reaches (b ∷ s) p k small m w = go (has (nodes ts) q) refl (follow-reaches s q)
@@ -173,7 +173,7 @@ module _ {ts : List Token} (v : Valid ts) where
         goes-eq : goes (getD table (bitXor (k .base) b) 0) b ≡ has (nodes ts) q
         goes-eq = ap (λ (z : ℕ). goes z b) at ∙ step-goes ts v p m b hb
 
-        go : (c : Bool) → has (nodes ts) q ≡ c → ((k : Walk) → Bytes s → List·Memᴰ q (nodes ts) → Stands ts q k → Reached ts (q ++ s) (follow table s k))
+        go : (c : Bool) → has (nodes ts) q ≡ c → ((k : Walk) → Bytes s → Mem q (nodes ts) → Stands ts q k → Reached ts (q ++ s) (follow table s k))
             → Reached ts (p ++ (b ∷ s)) (follow table (b ∷ s) k)
         go false e ih = rw (follow-stops table b s k (goes-eq ∙ e)) (record {
           node = p;
@@ -181,11 +181,11 @@ module _ {ts : List Token} (v : Valid ts) where
           mem = m;
           split = refl;
           stands = w;
-          stops = λ d r i n. clash (mem-has (subst (λ (z : ℕ). List·Memᴰ (p ++ (z ∷ [])) (nodes ts)) (sym (head-eq-of-cons-eq i)) n)) e;
+          stops = λ d r i n. clash (mem-has (subst (λ (z : ℕ). Mem (p ++ (z ∷ [])) (nodes ts)) (sym (head-eq-of-cons-eq i)) n)) e;
         })
         go true e ih = onward (eqb (baseIn x) 0) refl
           where
-            n : List·Memᴰ q (nodes ts)
+            n : Mem q (nodes ts)
             n = has-mem (nodes ts) q e
 
             x : ℕ
@@ -212,7 +212,7 @@ module _ {ts : List Token} (v : Valid ts) where
             onward false z = rw (follow-on table b s k (goes-eq ∙ e) z, ← append-assoc p (b ∷ []) s) (ih (onto k x (suc (k .used))) (small .1) n next)
 
     -- from the root word of a node
-    enter-reaches : (a b : ℕ) (s : List ℕ) → Bytes s → List·Memᴰ (a ∷ b ∷ []) (nodes ts) → Reached ts (a ∷ b ∷ s) (enter table (wordOf ts (a ∷ b ∷ []) 0) s)
+    enter-reaches : (a b : ℕ) (s : List ℕ) → Bytes s → Mem (a ∷ b ∷ []) (nodes ts) → Reached ts (a ∷ b ∷ s) (enter table (wordOf ts (a ∷ b ∷ []) 0) s)
     unfolding enter
     enter-reaches a b s small m = rw (ne-eqb w 0 (λ z. let h = word-pos ts v q 0 m in omega arith), enter) (go (not (eqb (idIn w) 0) && eqb (baseIn w) 0) refl)
       where
@@ -222,8 +222,8 @@ module _ {ts : List Token} (v : Valid ts) where
         w : ℕ
         w = wordOf ts q 0
 
-        here : Stands ts q (onto noWalk w 2)
-        here = onto-stands (a ∷ []) b noWalk 0 (lit< tt) (lit< tt) (passed-start ts a)
+        begun : Stands ts q (onto noWalk w 2)
+        begun = onto-stands (a ∷ []) b noWalk 0 (lit< tt) (lit< tt) (passed-start ts a)
 
         go : (c : Bool) → (not (eqb (idIn w) 0) && eqb (baseIn w) 0) ≡ c → Reached ts (a ∷ b ∷ s) (elim c [ true ↦ onto noWalk w 2 | false ↦ follow table s (onto noWalk w 2) ])
         go true e = record {
@@ -231,10 +231,10 @@ module _ {ts : List Token} (v : Valid ts) where
           rest = s;
           mem = m;
           split = refl;
-          stands = here;
+          stands = begun;
           stops = λ d r i. leaf-stops q m (sym (word-base ts v q 0 (lit< tt)) ∙ eqb-true (baseIn w) 0 (and-r (not (eqb (idIn w) 0)) (eqb (baseIn w) 0) e)) d;
         }
-        go false e = follow-reaches s q (onto noWalk w 2) small m here
+        go false e = follow-reaches s q (onto noWalk w 2) small m begun
 
   pub root-word : (a b : ℕ) → b < 256 → rootAt ts (a * 256 + b) ≡ cond (has (nodes ts) (a ∷ b ∷ [])) (wordOf ts (a ∷ b ∷ []) 0) 0
   unfolding rootAt
@@ -247,7 +247,7 @@ bytes-take (suc n) (b ∷ s) h = (h .0, bytes-take n s (h .1))
 
 -- the walk over two or more bytes: nothing where the first two are no node, else it reaches a node
 pub walk-cases : {m : Memory} {ts : List Token} → Loaded m ts → (a b : ℕ) (s : List ℕ) → Bytes (a ∷ b ∷ s)
-    → ((walkOn m (a ∷ b ∷ s) ≡ noWalk) × (List·Memᴰ (a ∷ b ∷ []) (nodes ts) → ⊥)) ⊎ Reached ts (a ∷ b ∷ take 253 s) (walkOn m (a ∷ b ∷ s))
+    → ((walkOn m (a ∷ b ∷ s) ≡ noWalk) × (Mem (a ∷ b ∷ []) (nodes ts) → ⊥)) ⊎ Reached ts (a ∷ b ∷ take 253 s) (walkOn m (a ∷ b ∷ s))
 unfolding walkOn
 walk-cases {m} {ts} L a b s small =
     let ha = small .0 in
@@ -262,6 +262,6 @@ walk-cases {m} {ts} L a b s small =
     root = getD (m .roots) (a * 256 + b) 0
 
     go : (c : Bool) → has (nodes ts) (a ∷ b ∷ []) ≡ c → root ≡ cond c (wordOf ts (a ∷ b ∷ []) 0) 0
-        → ((W root ≡ noWalk) × (List·Memᴰ (a ∷ b ∷ []) (nodes ts) → ⊥)) ⊎ Reached ts (a ∷ b ∷ take 253 s) (W root)
+        → ((W root ≡ noWalk) × (Mem (a ∷ b ∷ []) (nodes ts) → ⊥)) ⊎ Reached ts (a ∷ b ∷ take 253 s) (W root)
     go false e w = inl (ap W w ∙ (unfold enter in refl), λ n. clash (mem-has n) e)
     go true e w = inr (rw w (enter-reaches (L .valid) (m .table) (table-at L) a b (take 253 s) (bytes-take 253 s (small .1 .1)) (has-mem (nodes ts) (a ∷ b ∷ []) e)))
