@@ -151,7 +151,8 @@ unfolding badFrom partsAt
 firstBadFrom i s = firstOf (badFrom i (parts s))
 
 -- The first bad offset (29), none if the string is UTF-8.
-abbrev pub firstBad : List ℕ → Option ℕ
+unfoldable pub firstBad : List ℕ → Option ℕ
+unfolding firstBadFrom
 firstBad s = firstBadFrom 0 s
 
 -- "Number 2's offset may be any offset where an ill-formed sequence starts."
@@ -249,14 +250,26 @@ follow-within n (r ∷ rs) (b ∷ s) = go (within r b) (follow-within (suc n) rs
     go true ih = omega arith
     go false ih = omega arith
 
+pub step-nil : stepOf [] ≡ cut 0
+unfolding stepOf
+step-nil = refl
+
+pub step-cons : (b : ℕ) (s : List ℕ) → stepOf (b ∷ s) ≡ followed (after b) s
+unfolding stepOf
+step-cons b s = refl
+
 -- A step takes at least one byte, and no more than there are.
-pub step-pos : (b : ℕ) (s : List ℕ) → 0 < size (stepOf (b ∷ s))
+step-pos : (b : ℕ) (s : List ℕ) → 0 < size (stepOf (b ∷ s))
 unfolding stepOf
 step-pos b s = go (after b)
   where
     go : (o : Option (List Range)) → 0 < size (followed o s)
     go none = omega arith
     go (some rs) = follow-pos 1 rs s (omega arith)
+
+pub step-least : (s : List ℕ) → 0 < length s → 0 < size (stepOf s)
+step-least [] h = absurd (not-suc-le-zero h)
+step-least (b ∷ s) h = step-pos b s
 
 pub step-within : (s : List ℕ) → size (stepOf s) ≤ length s
 unfolding stepOf
@@ -283,63 +296,54 @@ unfolding partsAt
 parts-nil = refl
 
 -- The parts of a string that is not empty: the one that its step takes, then those of what is left.
-pub parts-cons : (b : ℕ) (s : List ℕ) (t : Step) → stepOf (b ∷ s) ≡ t →
-    parts (b ∷ s) ≡ partOf t (b ∷ s) ∷ parts (drop (size t) (b ∷ s))
+pub parts-step : (s : List ℕ) (t : Step) → 0 < length s → stepOf s ≡ t → parts s ≡ partOf t s ∷ parts (drop (size t) s)
 unfolding partsAt
-parts-cons b s t e =
+parts-step [] t h e = absurd (not-suc-le-zero h)
+parts-step (b ∷ s) t h e =
     subst (λ (u : Step). parts (b ∷ s) ≡ partOf u (b ∷ s) ∷ parts (drop (size u) (b ∷ s))) e
     (ap (λ ps. partOf (stepOf (b ∷ s)) (b ∷ s) ∷ ps) (past-part (size (stepOf (b ∷ s))) b s (step-pos b s)))
+
+pub first-bad-zero : (s : List ℕ) → firstBad s ≡ firstBadFrom 0 s
+unfolding firstBad
+first-bad-zero s = refl
 
 pub first-bad-nil : (i : ℕ) → firstBadFrom i [] ≡ none
 unfolding firstBadFrom
 first-bad-nil i = refl
 
-pub first-bad-char : (i b n : ℕ) (s : List ℕ) → stepOf (b ∷ s) ≡ char n →
-    firstBadFrom i (b ∷ s) ≡ firstBadFrom (i + n) (drop n (b ∷ s))
-unfolding firstBadFrom
-first-bad-char i b n s e = ap (λ ps. firstOf (badFrom i ps)) (parts-cons b s (char n) e)
-
-pub first-bad-bad : (i b n : ℕ) (s : List ℕ) → stepOf (b ∷ s) ≡ bad n → firstBadFrom i (b ∷ s) ≡ some i
-unfolding firstBadFrom
-first-bad-bad i b n s e = ap (λ ps. firstOf (badFrom i ps)) (parts-cons b s (bad n) e)
-
-pub first-bad-cut : (i b n : ℕ) (s : List ℕ) → stepOf (b ∷ s) ≡ cut n → firstBadFrom i (b ∷ s) ≡ some i
-unfolding firstBadFrom
-first-bad-cut i b n s e = ap (λ ps. firstOf (badFrom i ps)) (parts-cons b s (cut n) e)
-
 pub lossy-nil : lossy [] ≡ []
 unfolding lossy
 lossy-nil = refl
-
-pub lossy-char : (b n : ℕ) (s : List ℕ) → stepOf (b ∷ s) ≡ char n →
-    lossy (b ∷ s) ≡ take n (b ∷ s) ++ lossy (drop n (b ∷ s))
-unfolding lossy
-lossy-char b n s e = ap (each shown) (parts-cons b s (char n) e)
-
-pub lossy-bad : (b n : ℕ) (s : List ℕ) → stepOf (b ∷ s) ≡ bad n → lossy (b ∷ s) ≡ replacement ++ lossy (drop n (b ∷ s))
-unfolding lossy
-lossy-bad b n s e = ap (each shown) (parts-cons b s (bad n) e)
-
-pub lossy-cut : (b n : ℕ) (s : List ℕ) → stepOf (b ∷ s) ≡ cut n → lossy (b ∷ s) ≡ replacement ++ lossy (drop n (b ∷ s))
-unfolding lossy
-lossy-cut b n s e = ap (each shown) (parts-cons b s (cut n) e)
 
 pub blank-nil : blank [] ≡ true
 unfolding blank
 blank-nil = refl
 
-pub blank-char : (b n : ℕ) (s : List ℕ) → stepOf (b ∷ s) ≡ char n →
-    blank (b ∷ s) ≡ whiteSpace (pointOf (take n (b ∷ s))) && blank (drop n (b ∷ s))
-unfolding blank
-blank-char b n s e = ap (all whitePart) (parts-cons b s (char n) e)
+-- a string that is not empty, by what stands at its start: a character, or another part
+module _ (s : List ℕ) (h : 0 < length s) where
+  pub first-bad-char : (i n : ℕ) → stepOf s ≡ char n → firstBadFrom i s ≡ firstBadFrom (i + n) (drop n s)
+  unfolding firstBadFrom
+  first-bad-char i n e = ap (λ ps. firstOf (badFrom i ps)) (parts-step s (char n) h e)
 
-pub blank-bad : (b n : ℕ) (s : List ℕ) → stepOf (b ∷ s) ≡ bad n → blank (b ∷ s) ≡ false
-unfolding blank
-blank-bad b n s e = ap (all whitePart) (parts-cons b s (bad n) e)
+  pub first-bad-other : (i : ℕ) (t : Step) → stepOf s ≡ t → isChar t ≡ false → firstBadFrom i s ≡ some i
+  unfolding firstBadFrom
+  first-bad-other i t e f = ap (λ ps. firstOf (badFrom i ps)) (parts-step s t h e) ∙ rw f
 
-pub blank-cut : (b n : ℕ) (s : List ℕ) → stepOf (b ∷ s) ≡ cut n → blank (b ∷ s) ≡ false
-unfolding blank
-blank-cut b n s e = ap (all whitePart) (parts-cons b s (cut n) e)
+  pub lossy-char : (n : ℕ) → stepOf s ≡ char n → lossy s ≡ take n s ++ lossy (drop n s)
+  unfolding lossy
+  lossy-char n e = ap (each shown) (parts-step s (char n) h e)
+
+  pub lossy-other : (t : Step) → stepOf s ≡ t → isChar t ≡ false → lossy s ≡ replacement ++ lossy (drop (size t) s)
+  unfolding lossy
+  lossy-other t e f = ap (each shown) (parts-step s t h e) ∙ rw f
+
+  pub blank-char : (n : ℕ) → stepOf s ≡ char n → blank s ≡ whiteSpace (pointOf (take n s)) && blank (drop n s)
+  unfolding blank
+  blank-char n e = ap (all whitePart) (parts-step s (char n) h e)
+
+  pub blank-other : (t : Step) → stepOf s ≡ t → isChar t ≡ false → blank s ≡ false
+  unfolding blank
+  blank-other t e f = ap (all whitePart) (parts-step s t h e) ∙ rw f
 
 abbrev pub isNone : Option ℕ → Bool
 isNone none = true
@@ -347,7 +351,7 @@ isNone (some i) = false
 
 -- A string is UTF-8 exactly if it has no first bad offset.
 pub well-formed-first : (s : List ℕ) → wellFormed s ≡ isNone (firstBad s)
-unfolding wellFormed firstBadFrom
+unfolding wellFormed firstBad
 well-formed-first s = go 0 (parts s)
   where
     choose : (c : Bool) (i : ℕ) (is : List ℕ) (w : Bool) → w ≡ isNone (firstOf is) → c && w ≡ isNone (firstOf (cond c is (i ∷ is)))
@@ -360,7 +364,7 @@ well-formed-first s = go 0 (parts s)
 
 -- An ill-formed sequence starts at the first bad offset.
 pub first-bad-ill : (s : List ℕ) (i : ℕ) → firstBad s ≡ some i → illFormedAt s i ≡ true
-unfolding illFormedAt firstBadFrom
+unfolding illFormedAt firstBad
 first-bad-ill s i e = go (badFrom 0 (parts s)) e
   where
     go : (is : List ℕ) → firstOf is ≡ some i → byteIn is i ≡ true

@@ -1,0 +1,4 @@
+-- Lemmas that several proofs cite.
+mod Ranges
+mod Steps
+mod Cells

@@ -1,0 +1,105 @@
+-- `utf8::is_blank` meets its contract. The loop's invariant: the line is blank exactly if what is left of it is. The measure is what
+-- is left of the line. Assumes nothing.
+use borrow.Author.Needs.{needs}
+use borrow.Author.Tests.{not-true, not-false}
+use mathlib.Core.Path.{_≡_, refl, ap, _∙_, sym}
+use mathlib.Core.Bool.{_&&_}
+use Prim.Native.Nat.{_+_, _-_, _≤_, _<_}
+use native.Mathlib.Omega.{arith}
+use lib.ListN.{length, take, drop}
+use Rattle.spec.specs.Utf8.{char, stepOf, pointOf, whiteSpace, blank}
+use Rattle.utf8.specs.Means.{stepMeans}
+use Rattle.utf8.proofs.Steps.{no-char, char-size, blank-at-char, blank-at-other, blank-end}
+use Rattle.utf8.proofs.is_blank.Statement.{statement}
+use Rattle.utf8.proofs.is_blank.Tie as tie
+use Rattle.utf8.proofs.is_blank.Reads as reads
+use Rattle.utf8.proofs.is_blank.Lts as lts
+use Rattle.utf8.proofs.is_white_space.Reads as is-white-space-reads
+use Rattle.utf8.proofs.point_at.Reads as point-at-reads
+use Rattle.utf8.proofs.step_at.Reads as step-at-reads
+
+abbrev Inv-loop : tie.InvT-loop
+Inv-loop line i₀ i = (i ≤ length line) × (blank (drop i line) ≡ blank line)
+
+abbrev μ-loop : tie.MeasureT-loop
+μ-loop line i₀ i = length line - i
+
+char-at : (c : tie.After-known-told Inv-loop μ-loop) → stepOf (drop (c .before .before .before .before .before .loop .i) (c .before .before .before .before .before .before .before .args .line .now)) ≡ char (c .before .n .given .0 .0)
+char-at c = sym (c .before .before .before .step-at .ensures) ∙ ap stepMeans (c .before .n .given .1)
+
+size-of : (c : tie.After-known-told Inv-loop μ-loop) →
+    (0 < c .before .n .given .0 .0) × (c .before .before .before .before .before .loop .i + c .before .n .given .0 .0 ≤ length (c .before .before .before .before .before .before .before .args .line .now))
+size-of c = char-size (c .before .before .before .before .before .before .before .args .line .now) (c .before .before .before .before .before .loop .i) (omega arith) (c .before .n .given .0 .0) (char-at c)
+
+-- what is left is blank if this character is White_Space and what comes after it is blank
+blank-at : (c : tie.After-is-white-space Inv-loop μ-loop) →
+    blank (drop (c .before .before .before .before .before .before .before .loop .i) (c .before .before .before .before .before .before .before .before .before .args .line .now)) ≡
+    c .is-white-space .result && blank (drop (c .before .before .before .before .before .before .before .loop .i + c .before .before .before .n .given .0 .0) (c .before .before .before .before .before .before .before .before .before .args .line .now))
+blank-at c =
+    let line = c .before .before .before .before .before .before .before .before .before .args .line .now in
+    let i = c .before .before .before .before .before .before .before .loop .i in
+    let n = c .before .before .before .n .given .0 .0 in
+    let e : c .is-white-space .result ≡ whiteSpace (pointOf (take n (drop i line))) = c .is-white-space .ensures ∙ ap whiteSpace (c .before .point-at .ensures) in
+    blank-at-char line i (omega arith) n (char-at (c .before .before)) ∙ rw e
+
+loop-holds : tie.Need-loop-holds Inv-loop μ-loop
+loop-holds c = (omega arith, refl)
+
+step-at-requires : tie.Need-step-at-requires Inv-loop μ-loop
+step-at-requires c κs = search needs
+
+enum-known-n : tie.Need-enum-known-n Inv-loop μ-loop
+enum-known-n c = search needs
+
+returns : tie.Need-returns Inv-loop μ-loop
+returns c =
+    let l = c .before .before .before .loop in
+    sym
+    (blank-at-other (c .before .before .before .before .before .args .line .now) (l .i) (omega arith) _ (sym (c .before .step-at .ensures))
+    (no-char (c .before .step-at .result) (c .match .keys2))) ∙
+    l .inv .1
+
+point-at-requires : tie.Need-point-at-requires Inv-loop μ-loop
+point-at-requires c κs = size-of c .1
+
+is-white-space-requires : tie.Need-is-white-space-requires Inv-loop μ-loop
+is-white-space-requires c κs = search needs
+
+returns-2 : tie.Need-returns-2 Inv-loop μ-loop
+returns-2 c =
+    let e = not-true (c .before .is-white-space .result) (c .if1 .taken) in
+    sym (blank-at (c .before) ∙ rw e) ∙ c .before .before .before .before .before .before .before .before .loop .inv .1
+
+add-i : tie.Need-add-i Inv-loop μ-loop
+add-i c = omega (arith, size-of (c .before .before .before))
+
+loop-less : tie.Need-loop-less Inv-loop μ-loop
+loop-less c = omega (arith, size-of (c .before .before .before))
+
+loop-again : tie.Need-loop-again Inv-loop μ-loop
+loop-again c =
+    let e = not-false (c .before .is-white-space .result) (c .if1 .left) in
+    (size-of (c .before .before .before) .1, (rw e at (sym (blank-at (c .before)))) ∙ c .before .before .before .before .before .before .before .before .loop .inv .1)
+
+returns-3 : tie.Need-returns-3 Inv-loop μ-loop
+returns-3 c =
+    let l = c .before .loop in
+    blank-end (c .before .before .before .args .line .now) (l .i) (omega arith) ∙ l .inv .1
+
+pub is-blank-spec : {M : Type 1} → statement M
+is-blank-spec =
+    tie.close
+    (tie.spec
+    Inv-loop
+    μ-loop
+    loop-holds
+    step-at-requires
+    enum-known-n
+    returns
+    point-at-requires
+    is-white-space-requires
+    returns-2
+    add-i
+    loop-less
+    loop-again
+    returns-3)

@@ -1,0 +1,144 @@
+-- `utf8::step_at` meets its contract. The loop's invariant: what is left to follow, from i on, gives the step at `at`. The measure
+-- is the number of bytes that must still follow. Assumes nothing.
+use borrow.Author.Needs.{needs}
+use mathlib.Core.Path.{_≡_, ap, _∙_, sym}
+use Prim.Native.Nat.{_+_, _-_, _≤_, _<_}
+use native.Mathlib.Omega.{arith}
+use lib.ListN.{length, drop}
+use Rattle.spec.specs.Utf8.{follow, stepOf}
+use Rattle.utf8.specs.Means.{ranges, leadMeans}
+use Rattle.utf8.proofs.Steps.{step-past, step-first, walk-done, walk-cut, walk-bad, walk-on}
+use Rattle.utf8.proofs.step_at.Statement.{statement}
+use Rattle.utf8.proofs.step_at.Tie as tie
+use Rattle.utf8.proofs.step_at.Reads as reads
+use Rattle.utf8.proofs.step_at.Lts as lts
+use Rattle.utf8.proofs.lead_of.Reads as lead-of-reads
+
+abbrev Inv-loop : tie.InvT-loop
+Inv-loop s at more first-low first-high left₀ low₀ high₀ i₀ left low high i =
+    (at < i) × (i ≤ length s) × (follow (i - at) (ranges left low high) (drop i s) ≡ stepOf (drop at s))
+
+abbrev μ-loop : tie.MeasureT-loop
+μ-loop s at more first-low first-high left₀ low₀ high₀ i₀ left low high i = left
+
+returns : tie.Need-returns Inv-loop μ-loop
+returns c = step-past _ _ (c .if1 .taken)
+
+shared-slice-read-lead-of : tie.Need-shared-slice-read-lead-of Inv-loop μ-loop
+shared-slice-read-lead-of c = omega arith
+
+lead-of-requires : tie.Need-lead-of-requires Inv-loop μ-loop
+lead-of-requires c κs = search needs
+
+enum-known-more : tie.Need-enum-known-more Inv-loop μ-loop
+enum-known-more c = search needs
+
+enum-told : tie.Need-enum-told Inv-loop μ-loop
+enum-told c = search needs
+
+returns-2 : tie.Need-returns-2 Inv-loop μ-loop
+returns-2 c =
+    let a = c .before .before .before .before .before .before .args in
+    step-first (a .s .now) (a .at) _ (omega arith) (ap leadMeans (sym (c .enum-told .given .1)) ∙ c .before .before .lead-of .ensures)
+
+add-i : tie.Need-add-i Inv-loop μ-loop
+add-i c = omega arith
+
+loop-holds : tie.Need-loop-holds Inv-loop μ-loop
+loop-holds c =
+    let a = c .before .before .before .before .before .before .before .args in
+    let z : a .at + 1 - a .at ≡ 1 = omega arith in (
+      omega arith,
+      omega arith,
+      rw z (step-first (a .s .now) (a .at) _ (omega arith) (ap leadMeans (sym (c .before .more .given .1)) ∙ c .before .before .before .lead-of .ensures)),
+    )
+
+sub-t17 : tie.Need-sub-t17 Inv-loop μ-loop
+sub-t17 c = omega arith
+
+returns-3 : tie.Need-returns-3 Inv-loop μ-loop
+returns-3 c =
+    let a = c .before .before .before .before .before .before .before .before .before .before .args in
+    let l = c .before .before .loop in
+    sym (walk-cut (l .i - a .at) (l .left) (l .low) (l .high) (a .s .now) (l .i) (omega arith) (omega arith)) ∙ l .inv .2
+
+shared-slice-read-if3 : tie.Need-shared-slice-read-if3 Inv-loop μ-loop
+shared-slice-read-if3 c = omega arith
+
+sub-t20 : tie.Need-sub-t20 Inv-loop μ-loop
+sub-t20 c = omega arith
+
+returns-4 : tie.Need-returns-4 Inv-loop μ-loop
+returns-4 c =
+    let a = c .before .before .before .before .before .before .before .before .before .before .before .before .args in
+    let l = c .before .before .before .before .loop in
+    sym (walk-bad (l .i - a .at) (l .left) (l .low) (l .high) (a .s .now) (l .i) (omega arith) (omega arith) (omega arith)) ∙ l .inv .2
+
+shared-slice-read-if4 : tie.Need-shared-slice-read-if4 Inv-loop μ-loop
+shared-slice-read-if4 c = omega arith
+
+sub-t22 : tie.Need-sub-t22 Inv-loop μ-loop
+sub-t22 c = omega arith
+
+returns-5 : tie.Need-returns-5 Inv-loop μ-loop
+returns-5 c =
+    let a = c .before .before .before .before .before .before .before .before .before .before .before .before .before .before .args in
+    let l = c .before .before .before .before .before .before .loop in
+    sym (walk-bad (l .i - a .at) (l .left) (l .low) (l .high) (a .s .now) (l .i) (omega arith) (omega arith) (omega arith)) ∙ l .inv .2
+
+sub-left : tie.Need-sub-left Inv-loop μ-loop
+sub-left c = omega arith
+
+add-i-2 : tie.Need-add-i-2 Inv-loop μ-loop
+add-i-2 c = omega arith
+
+loop-less : tie.Need-loop-less Inv-loop μ-loop
+loop-less c = omega arith
+
+loop-again : tie.Need-loop-again Inv-loop μ-loop
+loop-again c =
+    let a = c .before .before .before .before .before .before .before .before .before .before .before .before .before .before .args in
+    let l = c .before .before .before .before .before .before .loop in
+    let z : l .i + 1 - a .at ≡ l .i - a .at + 1 = omega arith in (
+      omega arith,
+      omega arith,
+      rw z (sym (walk-on (l .i - a .at) (l .left) (l .low) (l .high) (a .s .now) (l .i) (omega arith) (omega arith) (omega arith)) ∙ l .inv .2),
+    )
+
+sub-t10 : tie.Need-sub-t10 Inv-loop μ-loop
+sub-t10 c = omega arith
+
+returns-6 : tie.Need-returns-6 Inv-loop μ-loop
+returns-6 c =
+    let a = c .before .before .before .before .before .before .before .before .before .args in
+    let l = c .before .loop in
+    sym (walk-done (l .i - a .at) (l .left) (l .low) (l .high) (a .s .now) (l .i) (omega arith)) ∙ l .inv .2
+
+pub step-at-spec : {M : Type 1} → statement M
+step-at-spec =
+    tie.close
+    (tie.spec
+    Inv-loop
+    μ-loop
+    returns
+    shared-slice-read-lead-of
+    lead-of-requires
+    enum-known-more
+    enum-told
+    returns-2
+    add-i
+    loop-holds
+    sub-t17
+    returns-3
+    shared-slice-read-if3
+    sub-t20
+    returns-4
+    shared-slice-read-if4
+    sub-t22
+    returns-5
+    sub-left
+    add-i-2
+    loop-less
+    loop-again
+    sub-t10
+    returns-6)

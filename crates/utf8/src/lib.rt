@@ -1,0 +1,173 @@
+// UTF-8 by RFC 3629: the first ill-formed place of a byte string, one character's bytes, blank lines, and a reader of lossy text
+// that takes one byte at a time. Every public function takes any input, and its contract is an equation with a definition of
+// `spec`, or of this crate's specs/ for the reader.
+ghost use mathlib.Core.Path.{_≡_};
+ghost use mathlib.Core.List.{[], _∷_};
+ghost use Prim.Native.Nat.{_+_, _≤_, _<_};
+ghost use lib.ListN.{length, take, drop};
+ghost use Rattle.spec.specs.Utf8.{after, stepOf, firstBad, pointOf, whiteSpace, blank};
+ghost use Rattle.utf8.specs.Means.{leadMeans, stepMeans, textMeans};
+
+// What the first byte of a character says: so many bytes must follow, the first of them from a low to a high end and the others
+// from 80 to BF; or that no character begins with it.
+enum Lead {
+    Nothing,
+    Follow(usize, u8, u8),
+}
+
+// The rule of the grammar that begins with `b`.
+fn lead_of(b: u8) -> Lead
+    ensures { λ r. ⌜ leadMeans r ≡ after b ⌝ }
+{
+    match b {
+        0x00..=0x7f => Lead::Follow(0, 0, 0),
+        0xc2..=0xdf => Lead::Follow(1, 0x80, 0xbf),
+        0xe0 => Lead::Follow(2, 0xa0, 0xbf),
+        0xe1..=0xec => Lead::Follow(2, 0x80, 0xbf),
+        0xed => Lead::Follow(2, 0x80, 0x9f),
+        0xee..=0xef => Lead::Follow(2, 0x80, 0xbf),
+        0xf0 => Lead::Follow(3, 0x90, 0xbf),
+        0xf1..=0xf3 => Lead::Follow(3, 0x80, 0xbf),
+        0xf4 => Lead::Follow(3, 0x80, 0x8f),
+        _ => Lead::Nothing,
+    }
+}
+
+// What stands at a place of a byte string: a character, a maximal ill-formed part, or the beginning of a character that the end
+// cuts off, each with its number of bytes.
+pub enum Step {
+    Char(usize),
+    Bad(usize),
+    Cut(usize),
+}
+
+// The step at `at`; at or past the end it is cut off after 0 bytes.
+pub fn step_at(s: &[u8], at: usize) -> Step
+    ensures { λ r. ⌜ stepMeans r ≡ stepOf (drop at (now (s .entry))) ⌝ }
+{
+    if s.len() <= at {
+        return Step::Cut(0);
+    }
+    let Lead::Follow(more, first_low, first_high) = lead_of(s[at]) else {
+        return Step::Bad(1);
+    };
+    let mut left = more;
+    let mut low = first_low;
+    let mut high = first_high;
+    let mut i = at + 1;
+    while 0 < left {
+        if s.len() <= i {
+            return Step::Cut(i - at);
+        }
+        if s[i] < low {
+            return Step::Bad(i - at);
+        }
+        if high < s[i] {
+            return Step::Bad(i - at);
+        }
+        left -= 1;
+        low = 0x80;
+        high = 0xbf;
+        i += 1;
+    }
+    Step::Char(i - at)
+}
+
+// Whether a byte string is UTF-8, and the first bad offset if not.
+pub enum Text {
+    WellFormed,
+    BadAt(usize),
+}
+
+pub fn first_bad(s: &[u8]) -> Text
+    ensures { λ r. ⌜ textMeans r ≡ firstBad (now (s .entry)) ⌝ }
+{
+    let mut i = 0;
+    while i < s.len() {
+        if s[i] < 0x80 {
+            i += 1;
+        } else {
+            let Step::Char(n) = step_at(s, i) else {
+                return Text::BadAt(i);
+            };
+            i += n;
+        }
+    }
+    Text::WellFormed
+}
+
+// The White_Space characters of document 01.
+pub fn is_white_space(c: u32) -> bool
+    ensures { λ r. ⌜ r ≡ whiteSpace c ⌝ }
+{
+    match c {
+        0x0009..=0x000d
+        | 0x0020
+        | 0x0085
+        | 0x00a0
+        | 0x1680
+        | 0x2000..=0x200a
+        | 0x2028
+        | 0x2029
+        | 0x202f
+        | 0x205f
+        | 0x3000 => true,
+        _ => false,
+    }
+}
+
+fn wide(b: u8) -> u32
+    ensures { λ r. ⌜ r ≡ b ⌝ }
+{
+    b as u32
+}
+
+// The code point of a character of two, three or four bytes.
+fn point_2(a: u8, b: u8) -> u32
+    ensures { λ r. ⌜ r ≡ pointOf (a ∷ b ∷ []) ⌝ }
+{
+    (a as u32) % 32 * 64 + (b as u32) % 64
+}
+
+fn point_3(a: u8, b: u8, c: u8) -> u32
+    ensures { λ r. ⌜ r ≡ pointOf (a ∷ b ∷ c ∷ []) ⌝ }
+{
+    (a as u32) % 16 * 4096 + (b as u32) % 64 * 64 + (c as u32) % 64
+}
+
+fn point_4(a: u8, b: u8, c: u8, d: u8) -> u32
+    ensures { λ r. ⌜ r ≡ pointOf (a ∷ b ∷ c ∷ d ∷ []) ⌝ }
+{
+    (a as u32) % 8 * 262144 + (b as u32) % 64 * 4096 + (c as u32) % 64 * 64 + (d as u32) % 64
+}
+
+// The code point of the character of `n` bytes at `at`; 0 if no character has so many.
+fn point_at(s: &[u8], at: usize, n: usize) -> u32
+    requires { ⌜ at + n ≤ length (now s) ⌝ }
+    ensures { λ r. ⌜ r ≡ pointOf (take n (drop at (now (s .entry)))) ⌝ }
+{
+    match n {
+        1 => wide(s[at]),
+        2 => point_2(s[at], s[at + 1]),
+        3 => point_3(s[at], s[at + 1], s[at + 2]),
+        4 => point_4(s[at], s[at + 1], s[at + 2], s[at + 3]),
+        _ => 0,
+    }
+}
+
+// Whether a line has only White_Space characters, or none: refusal 3.
+pub fn is_blank(line: &[u8]) -> bool
+    ensures { λ r. ⌜ r ≡ blank (now (line .entry)) ⌝ }
+{
+    let mut i = 0;
+    while i < line.len() {
+        let Step::Char(n) = step_at(line, i) else {
+            return false;
+        };
+        if !is_white_space(point_at(line, i, n)) {
+            return false;
+        }
+        i += n;
+    }
+    true
+}
