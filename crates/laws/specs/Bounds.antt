@@ -12,7 +12,8 @@ use lib.ListN.{length, length-append}
 use Rattle.spec.specs.Lists.{each, fold, has}
 use Rattle.spec.specs.Token.{Token}
 use Rattle.spec.specs.Trie.{extended, cuts, addNew, nodes, nodeCount, labels, order}
-use Rattle.spec.specs.Layout.{Put, firstFrom, top, words, first, free, choose, put, place, baseOf, pack, slotWord, puts, wordOf, tableAt, rootAt, tableWords}
+use Rattle.spec.specs.Layout.{Put, firstFrom, top, words, first, free, choose, put, place, baseOf, pack, slotWord, puts, wordOf, tableAt}
+use Rattle.spec.specs.Layout.{rootAt, tableWords}
 use Rattle.spec.specs.Valid.{Rising, Valid}
 use Rattle.spec.specs.Memory.{blobBytes}
 use Rattle.spec.specs.Theorems.{Bounds}
@@ -39,7 +40,8 @@ rising-count (t ∷ ts) low bound r h l =
 pub tokens-few : (ts : List Token) → Valid ts → length ts ≤ 65535
 tokens-few ts v = let k = rising-count ts 0 65536 (v .rising) (v .id-fits) (lit< tt) in omega arith
 
-each-length : {A B : Type 0} (f : A → List B) (n : ℕ) (l : List A) → ((x : A) → Mem x l → length (f x) ≤ n) → length (each f l) ≤ length l * n
+each-length : {A B : Type 0} (f : A → List B) (n : ℕ) (l : List A) → ((x : A) → Mem x l → length (f x) ≤ n)
+    → length (each f l) ≤ length l * n
 unfolding each
 each-length f n [] h = omega arith
 each-length f n (x ∷ l) h =
@@ -156,7 +158,9 @@ module _ (ts : List Token) (v : Valid ts) where
 
       go : (T ≡ 0) ⊎ Owner (labels (nodes ts)) (wordOf ts) (puts ts) i → T < 2 ^ 64
       go (inl z) = subst (λ (w : ℕ). w < 2 ^ 64) (sym z) (lit< tt)
-      go (inr o) = subst (λ (w : ℕ). w < 2 ^ 64) (sym (o .is)) (word-small (o .own .node ++ (o .lab ∷ [])) (o .lab) (labels-small ts v (o .own .node) (o .lab) (o .child)))
+      go (inr o) =
+          subst (λ (w : ℕ). w < 2 ^ 64) (sym (o .is))
+          (word-small (o .own .node ++ (o .lab ∷ [])) (o .lab) (labels-small ts v (o .own .node) (o .lab) (o .child)))
 
 pub bounds : Bounds
 bounds ts v = record {

@@ -2,7 +2,8 @@
 use mathlib.Core.Path.{_≡_, refl, sym, ap, ap₂, _∙_, subst}
 use mathlib.Core.Logic.{inl, inr}
 use mathlib.Core.Bool.{Bool, cond}
-use mathlib.Core.List.{List, [], _∷_, _++_, map, append-nil, append-cancel-left, head-eq-of-cons-eq, List·Memᴰ as Mem, List·Memᴰ·head as here, List·Memᴰ·tail as there, Memᴰ·append-right as mem-right, Memᴰ·of-map as mem-of-map}
+use mathlib.Core.List.{List, [], _∷_, _++_, map, append-nil, append-cancel-left, head-eq-of-cons-eq, List·Memᴰ as Mem}
+use mathlib.Core.List.{List·Memᴰ·head as here, List·Memᴰ·tail as there, Memᴰ·append-right as mem-right, Memᴰ·of-map as mem-of-map}
 use Prim.Native.Nat.{ℕ, suc, _≤_, _<_}
 use native.Mathlib.Omega.{arith}
 use lib.Dec.{eqb}
@@ -22,7 +23,8 @@ kids ps p = map (λ l. number ps (p ++ (l ∷ []))) (labels ps p)
 
 pub number-inj : (ps : List (List ℕ)) {p q : List ℕ} → Mem p ps → Mem q ps → number ps p ≡ number ps q → p ≡ q
 unfolding number
-number-inj ps {p} {q} m n e = let k : place-of ps p ≡ place-of ps q = omega arith in sym (at-place m) ∙ ap (λ (i : ℕ). getD ps i []) k ∙ at-place n
+number-inj ps {p} {q} m n e =
+    let k : place-of ps p ≡ place-of ps q = omega arith in sym (at-place m) ∙ ap (λ (i : ℕ). getD ps i []) k ∙ at-place n
 
 map-append : {A B : Type 0} (f : A → B) (s t : List A) → map f (s ++ t) ≡ map f s ++ map f t
 map-append f [] t = refl
@@ -40,14 +42,16 @@ module _ (ps : List (List ℕ)) (q : List ℕ) (b : ℕ) (new : Mem (q ++ (b ∷
   pub kids-self : kids (ps ++ ((q ++ (b ∷ [])) ∷ [])) q ≡ kids ps q ++ (suc (length ps) ∷ [])
   unfolding kids
   kids-self =
-      ap (map (λ l. number (ps ++ ((q ++ (b ∷ [])) ∷ [])) (q ++ (l ∷ [])))) (labels-snoc ps (q ++ (b ∷ [])) q ∙ ap (λ (l : List ℕ). labels ps q ++ l) (label-self q b))
+      ap (map (λ l. number (ps ++ ((q ++ (b ∷ [])) ∷ [])) (q ++ (l ∷ []))))
+      (labels-snoc ps (q ++ (b ∷ [])) q ∙ ap (λ (l : List ℕ). labels ps q ++ l) (label-self q b))
       ∙ map-append _ (labels ps q) (b ∷ [])
       ∙ ap₂ (λ (l : List ℕ) (n : ℕ). l ++ (suc n ∷ [])) (stays q) (place-new ps (q ++ (b ∷ [])) new)
 
   pub kids-other : (p : List ℕ) → (p ≡ q → ⊥) → kids (ps ++ ((q ++ (b ∷ [])) ∷ [])) p ≡ kids ps p
   unfolding kids
   kids-other p h =
-      ap (map (λ l. number (ps ++ ((q ++ (b ∷ [])) ∷ [])) (p ++ (l ∷ [])))) (labels-snoc ps (q ++ (b ∷ [])) p ∙ ap (λ (l : List ℕ). labels ps p ++ l) (label-other p q b h) ∙ append-nil (labels ps p))
+      ap (map (λ l. number (ps ++ ((q ++ (b ∷ [])) ∷ [])) (p ++ (l ∷ []))))
+      (labels-snoc ps (q ++ (b ∷ [])) p ∙ ap (λ (l : List ℕ). labels ps p ++ l) (label-other p q b h) ∙ append-nil (labels ps p))
       ∙ stays p
 
 -- a child has one parent
@@ -63,7 +67,9 @@ last-inj p a b e = head-eq-of-cons-eq (append-cancel-left p (a ∷ []) (b ∷ []
 
 pub kids-fresh : (ps : List (List ℕ)) (p : List ℕ) → Fresh ps → Fresh (kids ps p)
 unfolding kids
-kids-fresh ps p f = fresh-map _ (labels ps p) (labels-fresh ps p f) (λ x y m n e. last-inj p x y (number-inj ps (label-node ps p x m) (label-node ps p y n) e))
+kids-fresh ps p f =
+    fresh-map _ (labels ps p) (labels-fresh ps p f)
+    (λ x y m n e. last-inj p x y (number-inj ps (label-node ps p x m) (label-node ps p y n) e))
 
 -- ---- chains
 
@@ -86,7 +92,8 @@ pub chain-first : (nx : List ℕ) (c : ℕ) → 1 ≤ c → getD nx c 0 ≡ 0 �
 chain-first nx c h z = (refl, h, z)
 
 -- one more at the end, by a store at the last
-pub chain-more : (nx : List ℕ) (t c : ℕ) (m : List ℕ) (h : ℕ) → t < length nx → 1 ≤ c → (c ≡ t → ⊥) → getD nx c 0 ≡ 0 → Fresh (m ++ (t ∷ []))
+pub chain-more : (nx : List ℕ) (t c : ℕ) (m : List ℕ) (h : ℕ) → t < length nx → 1 ≤ c → (c ≡ t → ⊥) → getD nx c 0 ≡ 0
+    → Fresh (m ++ (t ∷ []))
     → Chain nx h (m ++ (t ∷ [])) → Chain (set nx t c) h ((m ++ (t ∷ [])) ++ (c ∷ []))
 chain-more nx t c [] h ht hc ne z f k = (k .0, k .1, (getD-set-same nx t c 0 ht, hc, getD-set-other nx t c c 0 ne ∙ z))
 chain-more nx t c (x ∷ m) h ht hc ne z f k = (
@@ -101,9 +108,11 @@ unfoldable pub seek : (ℕ → ℕ) → ℕ → List ℕ → ℕ
 seek lab b [] = 0
 seek lab b (c ∷ cs) = let r = seek lab b cs in cond (eqb (lab c) b) c r
 
-pub seek-hit : (lab : ℕ → ℕ) (b : ℕ) {c : ℕ} {l : List ℕ} → Mem c l → lab c ≡ b → ((x y : ℕ) → Mem x l → Mem y l → lab x ≡ lab y → x ≡ y) → seek lab b l ≡ c
+pub seek-hit : (lab : ℕ → ℕ) (b : ℕ) {c : ℕ} {l : List ℕ} → Mem c l → lab c ≡ b → ((x y : ℕ) → Mem x l → Mem y l → lab x ≡ lab y → x ≡ y)
+    → seek lab b l ≡ c
 unfolding seek
-seek-hit lab b {c} (here {x = y} {xs = l} e) h i = ap (λ (d : Bool). cond d y (seek lab b l)) (eq-eqb (lab y) b (ap lab (sym e) ∙ h)) ∙ sym e
+seek-hit lab b {c} (here {x = y} {xs = l} e) h i =
+    ap (λ (d : Bool). cond d y (seek lab b l)) (eq-eqb (lab y) b (ap lab (sym e) ∙ h)) ∙ sym e
 seek-hit lab b {c} (there {x = y} {xs = l} m) h i = go (either (eqb (lab y) b)) (seek-hit lab b m h (λ u v p q. i u v (there p) (there q)))
   where
     go : Tested (eqb (lab y) b) → seek lab b l ≡ c → cond (eqb (lab y) b) y (seek lab b l) ≡ c

@@ -2,7 +2,8 @@
 use mathlib.Core.Path.{_≡_, refl, sym, ap, ap₂, _∙_}
 use mathlib.Core.Logic.{_⊎_, inl, inr}
 use mathlib.Core.Bool.{Bool, true, false, not, _&&_, cond}
-use mathlib.Core.List.{List, [], _∷_, _++_, append-nil, append-assoc, List·Memᴰ as Mem, List·Memᴰ·head as here, List·Memᴰ·tail as there, Memᴰ·append-right as mem-right}
+use mathlib.Core.List.{List, [], _∷_, _++_, append-nil, append-assoc, List·Memᴰ as Mem, List·Memᴰ·head as here, List·Memᴰ·tail as there}
+use mathlib.Core.List.{Memᴰ·append-right as mem-right}
 use Prim.Native.Nat.{ℕ, zero, suc, _+_, _*_, _≤_, _<_}
 use native.Mathlib.Omega.{arith}
 use lib.Dec.{eqb, lit<, ltb}
@@ -20,7 +21,7 @@ use Rattle.running.specs.Prefixes.{proper-length}
 use Rattle.running.specs.Longest.{proper-iff}
 use Rattle.laws.specs.Tests.{clash, and-l, and-r, iff-eq, any-find, any-mem, has-mem, mem-has, mem-pos}
 use Rattle.laws.specs.Tokens.{byte-at}
-use Rattle.laws.specs.Nodes.{Cut, node-is, is-node, label-node, node-label}
+use Rattle.laws.specs.Nodes.{node-is, token-node, node-cut, label-node, node-label}
 use Rattle.laws.specs.Step.{Holds, Unheld, base-cases, placed, held-child, base-pos, word-pos}
 use Rattle.laws.specs.Reads.{root-at, root-length}
 use Rattle.laws.specs.Walk.{cut-all, Reached, node-long, root-word, walk-cases}
@@ -66,17 +67,8 @@ module _ {m : Memory} {ts : List Token} (L : Loaded m ts) where
       → (t : Token) × Mem t ts × ((c : ℕ) × (c < 256) × Mem (s ++ (c ∷ [])) (nodes ts) × (length s < length (t .bytes)))
   proper-node s h e =
       let (t, k, (c, y, q)) = proper-iff ts s .0 e in
-      let len : length (s ++ (c ∷ [])) ≡ length s + 1 = length-append s (c ∷ []) in
-      let hc : c < 256 = byte-at (rw q at (L .valid .bytes t k)) (mem-right s (here refl)) in (
-        t,
-        k,
-        (
-          c,
-          hc,
-          is-node ts (record { tok = t; mem = k; cut = record { rest = y; split = q ∙ sym (append-assoc s (c ∷ []) y); two = omega arith } }),
-          proper-length s (t .bytes) (c, y, q),
-        ),
-      )
+      let hc : c < 256 = byte-at (rw q at (L .valid .bytes t k)) (mem-right s (here refl)) in
+      (t, k, (c, hc, token-node ts s c y k q h, proper-length s (t .bytes) (c, y, q)))
 
   abbrev nonzero : ℕ → Bool
   nonzero w = not (eqb w 0)
@@ -91,28 +83,20 @@ module _ {m : Memory} {ts : List Token} (L : Loaded m ts) where
           let hj : j < 256 = omega (arith, row-length a ha) in
           go j (has (nodes ts) (a ∷ j ∷ [])) refl (sym (row-at a j ha hj) ∙ q) (not-true (eqb w 0) z)
         where
-          go : (j : ℕ) (c : Bool) {w : ℕ} → has (nodes ts) (a ∷ j ∷ []) ≡ c → cond c (wordOf ts (a ∷ j ∷ []) 0) 0 ≡ w → eqb w 0 ≡ false → properPrefix ts (a ∷ []) ≡ true
+          go : (j : ℕ) (c : Bool) {w : ℕ} → has (nodes ts) (a ∷ j ∷ []) ≡ c → cond c (wordOf ts (a ∷ j ∷ []) 0) 0 ≡ w → eqb w 0 ≡ false
+              → properPrefix ts (a ∷ []) ≡ true
           go j true e q z = node-proper (a ∷ []) j (has-mem (nodes ts) (a ∷ j ∷ []) e)
           go j false {w} e q z = absurd (clash (eq-eqb w 0 (sym q)) z)
 
       from : properPrefix ts (a ∷ []) ≡ true → any nonzero (row a) ≡ true
       from e =
           let (t, k, (c, hc, n, h)) = proper-node (a ∷ []) (lit< tt) e in
-          let w : getD (row a) c 0 ≡ wordOf ts (a ∷ c ∷ []) 0 = row-at a c ha hc ∙ ap (λ (d : Bool). cond d (wordOf ts (a ∷ c ∷ []) 0) 0) (mem-has n) in
+          let w : getD (row a) c 0 ≡ wordOf ts (a ∷ c ∷ []) 0 =
+          row-at a c ha hc ∙ ap (λ (d : Bool). cond d (wordOf ts (a ∷ c ∷ []) 0) 0) (mem-has n) in
           let p = word-pos ts (L .valid) (a ∷ c ∷ []) 0 n in
           any-mem nonzero (member (row a) c 0 (omega (arith, row-length a ha))) (ap not (ne-eqb (getD (row a) c 0) 0 (λ z. omega arith)))
 
   -- ---- two or more bytes: where the walk ends
-
-  -- the beginnings of a node are nodes
-  node-cut : {p q : List ℕ} → Cut p q → Mem q (nodes ts) → Mem p (nodes ts)
-  node-cut {p} c m =
-      let n = node-is ts m in
-      is-node ts (record {
-        tok = n .tok;
-        mem = n .mem;
-        cut = record { rest = c .rest ++ n .cut .rest; split = n .cut .split ∙ ap (λ (z : List ℕ). z ++ n .cut .rest) (c .split) ∙ append-assoc p (c .rest) (n .cut .rest); two = c .two };
-      })
 
   -- a node whose base is not 0 has a child
   base-child : (p : List ℕ) → 1 ≤ baseOf (puts ts) p → (c : ℕ) × Mem (p ++ (c ∷ [])) (nodes ts)
@@ -145,7 +129,9 @@ module _ {m : Memory} {ts : List Token} (L : Loaded m ts) where
         go (inr w) =
             let u = w .stands .used-eq in
             let z = w .stands .base-eq in
-            let q : w .node ≡ S = cut-all (record { rest = w .rest; split = sym (few-all few) ∙ w .split; two = node-long (L .valid) (w .mem) }) (omega arith) in
+            let q : w .node ≡ S =
+            cut-all (record { rest = w .rest; split = sym (few-all few) ∙ w .split; two = node-long (L .valid) (w .mem) })
+            (omega arith) in
             let e = ap (baseOf (puts ts)) q in
             let (c, n) = base-child S (omega arith) in
             node-proper S c n
@@ -157,18 +143,19 @@ module _ {m : Memory} {ts : List Token} (L : Loaded m ts) where
         go c n (omega arith) (walk-cases L a b s small)
       where
         start : (c : ℕ) → Mem (S ++ (c ∷ [])) (nodes ts) → Mem S (nodes ts)
-        start c n = node-cut (record { rest = c ∷ []; split = refl; two = omega arith }) n
+        start c n = node-cut ts (record { rest = c ∷ []; split = refl; two = omega arith }) n
 
         go : (c : ℕ) → Mem (S ++ (c ∷ [])) (nodes ts) → length S < 255
-            → ((K ≡ noWalk) × (Mem (a ∷ b ∷ []) (nodes ts) → ⊥)) ⊎ Reached ts (a ∷ b ∷ take 253 s) K → (K .used ≡ length S) × (1 ≤ K .base) × (length S < 255)
-        go c n few (inl (e, lacks)) = absurd (lacks (node-cut (record { rest = s; split = refl; two = lit< tt }) (start c n)))
+            → ((K ≡ noWalk) × (Mem (a ∷ b ∷ []) (nodes ts) → ⊥)) ⊎ Reached ts (a ∷ b ∷ take 253 s) K
+            → (K .used ≡ length S) × (1 ≤ K .base) × (length S < 255)
+        go c n few (inl (e, lacks)) = absurd (lacks (node-cut ts (record { rest = s; split = refl; two = lit< tt }) (start c n)))
         go c n few (inr w) = at (w .rest) refl
           where
             split : S ≡ w .node ++ w .rest
             split = sym (few-all few) ∙ w .split
 
             at : (r : List ℕ) → w .rest ≡ r → (K .used ≡ length S) × (1 ≤ K .base) × (length S < 255)
-            at (d ∷ r) q = absurd (w .stops d r q (node-cut (record {
+            at (d ∷ r) q = absurd (w .stops d r q (node-cut ts (record {
               rest = r;
               split = split ∙ ap (λ (z : List ℕ). w .node ++ z) q ∙ sym (append-assoc (w .node) (d ∷ []) r);
               two = (let x = length-append (w .node) (d ∷ []) in omega (arith, node-long (L .valid) (w .mem)));

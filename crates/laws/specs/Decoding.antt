@@ -9,7 +9,7 @@ use native.Mathlib.Omega.{arith}
 use lib.ListN.{length, length-append}
 use borrow.Author.Tests.{le-leb, lt-leb}
 use Rattle.spec.specs.Lists.{all, each}
-use Rattle.spec.specs.Token.{Token, bytesOf, joined, present}
+use Rattle.spec.specs.Token.{Token, bytesOf, joined, present, short}
 use Rattle.spec.specs.Memory.{Memory, Loaded}
 use Rattle.spec.specs.Decode.{lookup, Decoding, decoded, decodeAt, decoding}
 use Rattle.spec.specs.Decode as decode
@@ -24,7 +24,8 @@ module _ (m : Memory) (n index i : ℕ) (ids : List ℕ) where
   unfolding decodeAt
   decode-absent e = rw (e, decodeAt)
 
-  pub decode-full : (bs : List ℕ) → lookup m i ≡ bs → 1 ≤ length bs → n < length bs → decodeAt m n index (i ∷ ids) ≡ record { bytes = []; end = decode.full index }
+  pub decode-full : (bs : List ℕ) → lookup m i ≡ bs → 1 ≤ length bs → n < length bs
+      → decodeAt m n index (i ∷ ids) ≡ record { bytes = []; end = decode.full index }
   unfolding decodeAt
   decode-full [] e h f = absurd (omega arith)
   decode-full (b ∷ bs) e h f = rw (e, decodeAt) (rw (lt-leb (length (b ∷ bs)) n f))
@@ -51,7 +52,8 @@ module _ {m : Memory} {ts : List Token} (L : Loaded m ts) where
       let a : n - length (bytesOf ts i) - length (joined ts ids) ≡ n - length (joined ts (i ∷ ids)) = omega arith in
       let b : suc index + length ids ≡ index + suc (length ids) = omega arith in
       decode-more m n index i (ids ++ rest) (bytesOf ts i) (looking m ts L i) (present-bytes ts (L .valid) i p) (omega arith)
-      ∙ ap (decoded (bytesOf ts i)) (present-front ids rest (n - length (bytesOf ts i)) (suc index) (and-r (present ts i) (all (present ts) ids) e) (omega arith)
+      ∙ ap (decoded (bytesOf ts i))
+      (present-front ids rest (n - length (bytesOf ts i)) (suc index) (and-r (present ts i) (all (present ts) ids) e) (omega arith)
       ∙ ap₂ (λ (x y : ℕ). decoded (joined ts ids) (decodeAt m x y rest)) a b)
       ∙ ap (λ (bs : List ℕ). record { bytes = bs; end = tail .end }) (sym (append-assoc (bytesOf ts i) (joined ts ids) (tail .bytes)))
     where
@@ -59,21 +61,27 @@ module _ {m : Memory} {ts : List Token} (L : Loaded m ts) where
       tail = decodeAt m (n - length (joined ts (i ∷ ids))) (index + suc (length ids)) rest
 
 pub decoding-joins : DecodingJoins
-unfolding decoding
-decoding-joins m ts L ids e n h =
-    ap (decodeAt m n 0) (sym (append-nil ids)) ∙ present-front L ids [] n 0 e h
-    ∙ (unfold decodeAt in ap (λ (bs : List ℕ). record { bytes = bs; end = decode.complete }) (append-nil (joined ts ids)))
+unfolding decoding decodeAt
+decoding-joins m ts L ids e n h = ap (decodeAt m n 0) (sym (append-nil ids)) ∙ present-front L ids [] n 0 e h ∙ rw append-nil
 
 pub decoding-stops : DecodingStops
 unfolding decoding
 decoding-stops m ts L ids e i rest f n h =
-    present-front L ids (i ∷ rest) n 0 e h
-    ∙ ap (decoded (joined ts ids)) (decode-absent m (n - length (joined ts ids)) (0 + length ids) i rest (looking m ts L i ∙ not-present ts i f) ∙ ap (λ (k : ℕ). record { bytes = []; end = decode.absent k i }) (zero-add (length ids)))
-    ∙ ap (λ (bs : List ℕ). record { bytes = bs; end = decode.absent (length ids) i }) (append-nil (joined ts ids))
+    rw (
+      present-front L ids (i ∷ rest) n 0 e h,
+      zero-add (length ids),
+      decode-absent m (n - length (joined ts ids)) (length ids) i rest (looking m ts L i ∙ not-present ts i f),
+      append-nil,
+    )
 
 pub decoding-fills : DecodingFills
 unfolding decoding
 decoding-fills m ts L ids e i rest p n h f =
-    present-front L ids (i ∷ rest) n 0 e h
-    ∙ ap (decoded (joined ts ids)) (decode-full m (n - length (joined ts ids)) (0 + length ids) i rest (bytesOf ts i) (looking m ts L i) (present-bytes ts (L .valid) i p) (omega arith) ∙ ap (λ (k : ℕ). record { bytes = []; end = decode.full k }) (zero-add (length ids)))
-    ∙ ap (λ (bs : List ℕ). record { bytes = bs; end = decode.full (length ids) }) (append-nil (joined ts ids))
+    let short : n - length (joined ts ids) < length (bytesOf ts i) = omega arith in
+    let b = present-bytes ts (L .valid) i p in
+    rw (
+      present-front L ids (i ∷ rest) n 0 e h,
+      zero-add (length ids),
+      decode-full m (n - length (joined ts ids)) (length ids) i rest (bytesOf ts i) (looking m ts L i) b short,
+      append-nil,
+    )

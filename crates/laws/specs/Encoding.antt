@@ -28,7 +28,8 @@ use Rattle.laws.specs.Matching.{matching}
 -- ---- the equations of `encodeAt`
 
 module _ (m : Memory) (pos b : ℕ) (s : List ℕ) where
-  pub encode-unmatched : (n : ℕ) → matchOn m (b ∷ s) ≡ nothing → encodeAt m n pos 0 (b ∷ s) ≡ record { ids = []; end = encode.unmatched pos b }
+  pub encode-unmatched : (n : ℕ) → matchOn m (b ∷ s) ≡ nothing
+      → encodeAt m n pos 0 (b ∷ s) ≡ record { ids = []; end = encode.unmatched pos b }
   unfolding encodeAt
   encode-unmatched n e = rw (e, encodeAt)
 
@@ -36,7 +37,8 @@ module _ (m : Memory) (pos b : ℕ) (s : List ℕ) where
   unfolding encodeAt
   encode-full i len e = rw (e, encodeAt)
 
-  pub encode-more : (n i len : ℕ) → matchOn m (b ∷ s) ≡ found i len → encodeAt m (suc n) pos 0 (b ∷ s) ≡ encoded i (encodeAt m n (suc pos) (pred len) s)
+  pub encode-more : (n i len : ℕ) → matchOn m (b ∷ s) ≡ found i len
+      → encodeAt m (suc n) pos 0 (b ∷ s) ≡ encoded i (encodeAt m n (suc pos) (pred len) s)
   unfolding encodeAt
   encode-more n i len e = rw (e, encodeAt)
 
@@ -48,7 +50,8 @@ cut ts pos n r = cond (leb (length (r .ids)) n)
     (record { ids = r .ids; end = encodeEnd (r .end) })
     (record { ids = take n (r .ids); end = encode.full (pos + length (joined ts (take n (r .ids)))) })
 
-cut-room : (ts : List Token) (pos n : ℕ) (r : Scan) → length (r .ids) ≤ n → cut ts pos n r ≡ record { ids = r .ids; end = encodeEnd (r .end) }
+cut-room : (ts : List Token) (pos n : ℕ) (r : Scan) → length (r .ids) ≤ n
+    → cut ts pos n r ≡ record { ids = r .ids; end = encodeEnd (r .end) }
 unfolding cut
 cut-room ts pos n r h = rw (le-leb (length (r .ids)) n h)
 
@@ -67,11 +70,13 @@ module _ {m : Memory} {ts : List Token} (L : Loaded m ts) where
           → encoded (t .id) (cut ts (suc pos + pred (length (t .bytes))) n r) ≡ cut ts (pos + 0) (suc n) (scanned (t .id) r)
       go (inl e) =
           let h = leb-true (length (r .ids)) n e in
-          ap (encoded (t .id)) (cut-room ts (suc pos + pred (length (t .bytes))) n r h) ∙ sym (cut-room ts (pos + 0) (suc n) (scanned (t .id) r) (omega arith))
+          ap (encoded (t .id)) (cut-room ts (suc pos + pred (length (t .bytes))) n r h)
+          ∙ sym (cut-room ts (pos + 0) (suc n) (scanned (t .id) r) (omega arith))
       go (inr e) =
           let h = leb-false (length (r .ids)) n e in
           let J : List ℕ = joined ts (take n (r .ids)) in
-          let l : length (joined ts (t .id ∷ take n (r .ids))) ≡ length (t .bytes) + length J = ap length (joined-cons ts (L .valid) t k (take n (r .ids))) ∙ length-append (t .bytes) J in
+          let l : length (joined ts (t .id ∷ take n (r .ids))) ≡ length (t .bytes) + length J =
+          ap length (joined-cons ts (L .valid) t k (take n (r .ids))) ∙ length-append (t .bytes) J in
           let o = L .valid .nonempty t k in
           let p : suc pos + pred (length (t .bytes)) + length J ≡ pos + 0 + length (joined ts (t .id ∷ take n (r .ids))) = omega arith in
           ap (encoded (t .id)) (cut-full ts (suc pos + pred (length (t .bytes))) n r h)
@@ -82,19 +87,27 @@ module _ {m : Memory} {ts : List Token} (L : Loaded m ts) where
   encode-cut [] k pos n small = unfold encodeAt scanAt in sym (cut-room ts (pos + k) n (record { ids = []; end = done }) (omega arith))
   encode-cut (b ∷ s) (suc k) pos n small = within (encode-cut s k (suc pos) n (small .1))
     where
-      within : encodeAt m n (suc pos) k s ≡ cut ts (suc pos + k) n (scanAt ts (suc pos) k s) → encodeAt m n pos (suc k) (b ∷ s) ≡ cut ts (pos + suc k) n (scanAt ts pos (suc k) (b ∷ s))
-      within e = unfold encodeAt scanAt in e ∙ (let p : suc pos + k ≡ pos + suc k = omega arith in ap (λ (z : ℕ). cut ts z n (scanAt ts (suc pos) k s)) p)
-  encode-cut (b ∷ s) zero pos n small = go (longest ts (b ∷ s)) refl n (matching m ts L (b ∷ s) small) (λ j i. encode-cut s j (suc pos) i (small .1))
+      within : encodeAt m n (suc pos) k s ≡ cut ts (suc pos + k) n (scanAt ts (suc pos) k s)
+          → encodeAt m n pos (suc k) (b ∷ s) ≡ cut ts (pos + suc k) n (scanAt ts pos (suc k) (b ∷ s))
+      within e =
+          unfold encodeAt scanAt in e
+          ∙ (let p : suc pos + k ≡ pos + suc k = omega arith in ap (λ (z : ℕ). cut ts z n (scanAt ts (suc pos) k s)) p)
+  encode-cut (b ∷ s) zero pos n small =
+      go (longest ts (b ∷ s)) refl n (matching m ts L (b ∷ s) small) (λ j i. encode-cut s j (suc pos) i (small .1))
     where
       go : (o : Option Token) → longest ts (b ∷ s) ≡ o → (n : ℕ) → matchOn m (b ∷ s) ≡ matchOf (longest ts (b ∷ s))
-          → ((j i : ℕ) → encodeAt m i (suc pos) j s ≡ cut ts (suc pos + j) i (scanAt ts (suc pos) j s)) → encodeAt m n pos 0 (b ∷ s) ≡ cut ts (pos + 0) n (scanAt ts pos 0 (b ∷ s))
+          → ((j i : ℕ) → encodeAt m i (suc pos) j s ≡ cut ts (suc pos + j) i (scanAt ts (suc pos) j s))
+          → encodeAt m n pos 0 (b ∷ s) ≡ cut ts (pos + 0) n (scanAt ts pos 0 (b ∷ s))
       go none e n q ih =
-          encode-unmatched m pos b s n (q ∙ ap matchOf e) ∙ sym (ap (cut ts (pos + 0) n) (scan-none ts pos b s e) ∙ cut-room ts (pos + 0) n (nowhere pos b) (omega arith))
+          encode-unmatched m pos b s n (q ∙ ap matchOf e)
+          ∙ sym (ap (cut ts (pos + 0) n) (scan-none ts pos b s e) ∙ cut-room ts (pos + 0) n (nowhere pos b) (omega arith))
       go (some t) e zero q ih =
           let z : pos + 0 + 0 ≡ pos = omega arith in
           encode-full m pos b s (t .id) (length (t .bytes)) (q ∙ ap matchOf e)
-          ∙ sym (ap (cut ts (pos + 0) 0) (scan-some ts pos b s t e) ∙ cut-full ts (pos + 0) 0 (scanned (t .id) (scanAt ts (suc pos) (pred (length (t .bytes))) s)) (omega arith)
-          ∙ ap (λ (x : List ℕ). record { ids = []; end = encode.full (pos + 0 + length x) }) (joined-nil ts) ∙ ap (λ (x : ℕ). record { ids = []; end = encode.full x }) z)
+          ∙ sym (ap (cut ts (pos + 0) 0) (scan-some ts pos b s t e) ∙ cut-full ts (pos + 0) 0
+          (scanned (t .id) (scanAt ts (suc pos) (pred (length (t .bytes))) s)) (omega arith)
+          ∙ ap (λ (x : List ℕ). record { ids = []; end = encode.full (pos + 0 + length x) }) (joined-nil ts)
+          ∙ ap (λ (x : ℕ). record { ids = []; end = encode.full x }) z)
       go (some t) e (suc n) q ih =
           encode-more m pos b s n (t .id) (length (t .bytes)) (q ∙ ap matchOf e)
           ∙ ap (encoded (t .id)) (ih (pred (length (t .bytes))) n)
@@ -109,4 +122,5 @@ pub encoding-is-cut : EncodingIsCut
 unfolding encoding
 encoding-is-cut m ts L s small n h =
     encode-cut L s 0 0 n small ∙ cut-full ts 0 n (scan ts s) h
-    ∙ ap (λ (z : ℕ). record { ids = take n (scan ts s .ids); end = encode.full z }) (zero-add (length (joined ts (take n (scan ts s .ids)))))
+    ∙ ap (λ (z : ℕ). record { ids = take n (scan ts s .ids); end = encode.full z })
+    (zero-add (length (joined ts (take n (scan ts s .ids)))))

@@ -1,7 +1,9 @@
 -- No node is placed twice; and the writes of each child's word at its slot, in any order, make the table. Assumes nothing.
 use mathlib.Core.Path.{_≡_, refl, sym, ap, _∙_, subst}
 use mathlib.Core.Logic.{_⊎_, inl, inr}
-use mathlib.Core.List.{List, [], _∷_, _++_, map, List·Memᴰ as Mem, List·Memᴰ·head as here, List·Memᴰ·tail as there, List·Memᴰ·cases-cons as cases-cons, List·Memᴰ·not-nil as not-nil, List·Memᴰ·append-cases as append-cases, Memᴰ·cast as mem-cast, Memᴰ·of-map as mem-of-map, Memᴰ·map as mem-map}
+use mathlib.Core.List.{List, [], _∷_, _++_, map, List·Memᴰ as Mem, List·Memᴰ·head as here, List·Memᴰ·tail as there}
+use mathlib.Core.List.{List·Memᴰ·cases-cons as cases-cons, List·Memᴰ·not-nil as not-nil, List·Memᴰ·append-cases as append-cases}
+use mathlib.Core.List.{Memᴰ·cast as mem-cast, Memᴰ·of-map as mem-of-map, Memᴰ·map as mem-map}
 use Prim.Native.Nat.{ℕ, zero, suc, _+_, _/_, _≤_, _<_}
 use native.Mathlib.Omega.{arith}
 use lib.Bits.{bitXor}
@@ -15,8 +17,8 @@ use Rattle.spec.specs.Trie.{nodes, labels, withCount, falling, order}
 use Rattle.spec.specs.Layout.{Put, words, put, place, baseOf, slotWord, puts, wordOf, tableAt, tableWords}
 use Rattle.spec.specs.Valid.{Valid}
 use Rattle.spec.specs.Memory.{tableList}
-use Rattle.laws.specs.Tests.{Tested, either, each-mem, each-find, keep-find, mem-pos}
-use Rattle.laws.specs.Nodes.{label-node, labels-small, order-find}
+use Rattle.laws.specs.Tests.{Tested, either, each-mem, each-find, mem-pos}
+use Rattle.laws.specs.Nodes.{label-node, labels-small, with-count, order-find}
 use Rattle.laws.specs.Numbered.{Fresh, nodes-fresh, keep-fresh}
 use Rattle.laws.specs.Xor.{xor-block-of}
 use Rattle.laws.specs.Placed.{top-le}
@@ -39,8 +41,9 @@ unfolding falling withCount
 falling-le ps zero m = absurd (not-nil m)
 falling-le ps (suc n) {p} m = go (append-cases (withCount ps (suc n)) m) (falling-le ps n)
   where
-    go : Mem p (withCount ps (suc n)) ⊎ Mem p (falling ps n) → (Mem p (falling ps n) → length (labels ps p) ≤ n) → length (labels ps p) ≤ suc n
-    go (inl k) r = let e = eqb-true (length (labels ps p)) (suc n) ((keep-find (λ (q : List ℕ). eqb (length (labels ps q)) (suc n)) ps k) .1) in omega arith
+    go : Mem p (withCount ps (suc n)) ⊎ Mem p (falling ps n) → (Mem p (falling ps n) → length (labels ps p) ≤ n)
+        → length (labels ps p) ≤ suc n
+    go (inl k) r = let e = with-count ps (suc n) k .1 in omega arith
     go (inr k) r = let h = r k in omega arith
 
 falling-fresh : (ps : List (List ℕ)) (n : ℕ) → Fresh ps → Fresh (falling ps n)
@@ -49,7 +52,7 @@ falling-fresh ps zero f = tt
 falling-fresh ps (suc n) f = fresh-append (withCount ps (suc n)) (falling ps n) (keep-fresh _ ps f) (falling-fresh ps n f) apart
   where
     apart : (p : List ℕ) → Mem p (withCount ps (suc n)) → Mem p (falling ps n) → ⊥
-    apart p m k = let e = eqb-true (length (labels ps p)) (suc n) ((keep-find (λ (q : List ℕ). eqb (length (labels ps q)) (suc n)) ps m) .1) in let h = falling-le ps n k in omega arith
+    apart p m k = omega (arith, with-count ps (suc n) m .1, falling-le ps n k)
 
 pub order-fresh : (ps : List (List ℕ)) → Fresh ps → Fresh (order ps)
 unfolding order
@@ -101,16 +104,19 @@ length-writes [] t = refl
 length-writes (w ∷ ws) t = length-writes ws (write t w) ∙ length-set t (w .at) (w .val)
 
 module _ (F : ℕ → ℕ) where
-  one-write : (w : Write) (t : List ℕ) (i : ℕ) → w .val ≡ F (w .at) → w .at < length t → (getD t i 0 ≡ F i) ⊎ (w .at ≡ i) → getD (write t w) i 0 ≡ F i
+  one-write : (w : Write) (t : List ℕ) (i : ℕ) → w .val ≡ F (w .at) → w .at < length t → (getD t i 0 ≡ F i) ⊎ (w .at ≡ i)
+      → getD (write t w) i 0 ≡ F i
   unfolding write
   one-write w t i v h c = go (either (eqb (w .at) i)) c
     where
       go : Tested (eqb (w .at) i) → (getD t i 0 ≡ F i) ⊎ (w .at ≡ i) → getD (set t (w .at) (w .val)) i 0 ≡ F i
-      go (inl e) c = subst (λ (z : ℕ). getD (set t (w .at) (w .val)) z 0 ≡ F z) (eqb-true (w .at) i e) (getD-set-same t (w .at) (w .val) 0 h ∙ v)
+      go (inl e) c =
+          subst (λ (z : ℕ). getD (set t (w .at) (w .val)) z 0 ≡ F z) (eqb-true (w .at) i e) (getD-set-same t (w .at) (w .val) 0 h ∙ v)
       go (inr e) (inl k) = getD-set-other t (w .at) i (w .val) 0 (λ q. eqb-false (w .at) i e (sym q)) ∙ k
       go (inr e) (inr k) = absurd (eqb-false (w .at) i e k)
 
-  pub after : (ws : List Write) (t : List ℕ) (i : ℕ) → ((w : Write) → Mem w ws → w .val ≡ F (w .at)) → ((w : Write) → Mem w ws → w .at < length t)
+  pub after : (ws : List Write) (t : List ℕ) (i : ℕ) → ((w : Write) → Mem w ws → w .val ≡ F (w .at))
+      → ((w : Write) → Mem w ws → w .at < length t)
       → (getD t i 0 ≡ F i) ⊎ ((w : Write) × Mem w ws × (w .at ≡ i)) → getD (fold write t ws) i 0 ≡ F i
   unfolding fold
   after [] t i v h (inl k) = k
@@ -126,7 +132,8 @@ module _ (F : ℕ → ℕ) where
       at-once : (getD t i 0 ≡ F i) ⊎ (w .at ≡ i) → getD (write t w) i 0 ≡ F i
       at-once d = one-write w t i (v w (here refl)) (h w (here refl)) d
 
-      go : (getD t i 0 ≡ F i) ⊎ ((u : Write) × Mem u (w ∷ ws) × (u .at ≡ i)) → (getD (write t w) i 0 ≡ F i) ⊎ ((u : Write) × Mem u ws × (u .at ≡ i))
+      go : (getD t i 0 ≡ F i) ⊎ ((u : Write) × Mem u (w ∷ ws) × (u .at ≡ i))
+          → (getD (write t w) i 0 ≡ F i) ⊎ ((u : Write) × Mem u ws × (u .at ≡ i))
       go (inl k) = inl (at-once (inl k))
       go (inr k) = pick (cases-cons (k .1))
         where
@@ -180,7 +187,8 @@ module _ (ts : List Token) where
     unfolding writes childWrite
     written i o = (
       childWrite p (o .lab),
-      each-mem (λ (q : List ℕ). map (childWrite q) (labels (nodes ts) q)) (in-nodes (put-find (labels (nodes ts)) (order (nodes ts)) [] own-mem)) (mem-map (childWrite p) (o .child)),
+      each-mem (λ (q : List ℕ). map (childWrite q) (labels (nodes ts) q))
+          (in-nodes (put-find (labels (nodes ts)) (order (nodes ts)) [] own-mem)) (mem-map (childWrite p) (o .child)),
       ap (λ (z : ℕ). bitXor z (o .lab)) own-base ∙ o .at,
     )
       where
@@ -201,7 +209,9 @@ module _ (ts : List Token) where
         own-base = go (base-cases (puts ts) p)
           where
             go : Holds (puts ts) p ⊎ Unheld (puts ts) p → baseOf (puts ts) p ≡ o .own .base
-            go (inl h) = h .base-eq ∙ ap (λ (x : Put). x .base) (unique (λ (x : Put). x .node) (puts ts) (puts-fresh ts) (h .mem) (o .mem) (h .node-eq))
+            go (inl h) =
+                h .base-eq
+                ∙ ap (λ (x : Put). x .base) (unique (λ (x : Put). x .node) (puts ts) (puts-fresh ts) (h .mem) (o .mem) (h .node-eq))
             go (inr h) = absurd (h .1 (o .own) (o .mem) refl)
 
     pub table-filled : writeAll writes (replicate (tableWords ts) 0) ≡ tableList ts
@@ -220,10 +230,12 @@ module _ (ts : List Token) where
             let lw = length-writes writes Z in
             let hi : i < n = omega arith in
             let z : i ≡ 0 + i = omega arith in
-            after (tableAt ts) writes Z i right (λ w m. let a = in-table w m in omega arith) (go (owner (labels (nodes ts)) (wordOf ts) (puts ts) i) hi)
+            after (tableAt ts) writes Z i right (λ w m. let a = in-table w m in omega arith)
+            (go (owner (labels (nodes ts)) (wordOf ts) (puts ts) i) hi)
             ∙ ap (tableAt ts) z ∙ sym (up-at (tableAt ts) n 0 i 0 hi)
           where
-            go : (slotWord (labels (nodes ts)) (wordOf ts) (puts ts) i ≡ 0) ⊎ Owner (labels (nodes ts)) (wordOf ts) (puts ts) i → i < n → (getD Z i 0 ≡ tableAt ts i) ⊎ ((w : Write) × Mem w writes × (w .at ≡ i))
+            go : (slotWord (labels (nodes ts)) (wordOf ts) (puts ts) i ≡ 0) ⊎ Owner (labels (nodes ts)) (wordOf ts) (puts ts) i → i < n
+                → (getD Z i 0 ≡ tableAt ts i) ⊎ ((w : Write) × Mem w writes × (w .at ≡ i))
             go (inl e) hi = inl (getD-replicate n i 0 0 hi ∙ sym (to-zero e))
               where
                 to-zero : slotWord (labels (nodes ts)) (wordOf ts) (puts ts) i ≡ 0 → tableAt ts i ≡ 0

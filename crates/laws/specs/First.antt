@@ -68,7 +68,9 @@ skip f n s (suc d) h =
 pub enough : (f : ℕ → Bool) (n e s : ℕ) → f (s + n) ≡ true → firstFrom f (n + e) s ≡ firstFrom f n s
 unfolding firstFrom
 enough f zero zero s h = refl
-enough f zero (suc e) s h = let a : 0 + suc e ≡ suc e = omega arith in ap (λ (z : ℕ). firstFrom f z s) a ∙ ap (λ (c : Bool). cond c s (firstFrom f e (suc s))) (ap f (sym (add-zero s)) ∙ h)
+enough f zero (suc e) s h =
+    let a : 0 + suc e ≡ suc e = omega arith in
+    ap (λ (z : ℕ). firstFrom f z s) a ∙ ap (λ (c : Bool). cond c s (firstFrom f e (suc s))) (ap f (sym (add-zero s)) ∙ h)
 enough f (suc n) e s h =
     let a : suc n + e ≡ suc (n + e) = omega arith in
     let b : s + suc n ≡ suc s + n = omega arith in
@@ -80,7 +82,8 @@ pub first-is : (f : ℕ → Bool) (n s r : ℕ) → s ≤ r → r ≤ s + n → 
 first-is f n s r a b e h =
     let p : n ≡ (r - s) + (n - (r - s)) = omega arith in
     let q : s + (r - s) ≡ r = omega arith in
-    ap (λ (z : ℕ). firstFrom f z s) p ∙ skip f (n - (r - s)) s (r - s) (λ t c d. h t c (omega arith)) ∙ ap (firstFrom f (n - (r - s))) q ∙ passes (n - (r - s))
+    ap (λ (z : ℕ). firstFrom f z s) p ∙ skip f (n - (r - s)) s (r - s) (λ t c d. h t c (omega arith)) ∙ ap (firstFrom f (n - (r - s))) q
+    ∙ passes (n - (r - s))
   where
     passes : (k : ℕ) → firstFrom f k r ≡ r
     passes zero = unfold firstFrom in refl

@@ -47,15 +47,19 @@ label-self [] b = refl
 label-self (x ∷ p) b = ap (λ (c : Bool). cond c (label p (p ++ (b ∷ []))) []) (eq-eqb x x refl) ∙ label-self p b
 
 pub snoc-inj : (p q : List ℕ) (a b : ℕ) → p ++ (a ∷ []) ≡ q ++ (b ∷ []) → p ≡ q
-snoc-inj p q a b e = sym (take-at p (a ∷ []) (length p) refl) ∙ ap (take (length p)) e ∙ take-at q (b ∷ []) (length p) (lens (length-append p (a ∷ [])) (length-append q (b ∷ [])) (ap length e))
+snoc-inj p q a b e =
+    sym (take-at p (a ∷ []) (length p) refl) ∙ ap (take (length p)) e
+    ∙ take-at q (b ∷ []) (length p) (lens (length-append p (a ∷ [])) (length-append q (b ∷ [])) (ap length e))
   where
-    lens : length (p ++ (a ∷ [])) ≡ length p + 1 → length (q ++ (b ∷ [])) ≡ length q + 1 → length (p ++ (a ∷ [])) ≡ length (q ++ (b ∷ [])) → length q ≡ length p
+    lens : length (p ++ (a ∷ [])) ≡ length p + 1 → length (q ++ (b ∷ [])) ≡ length q + 1 → length (p ++ (a ∷ [])) ≡ length (q ++ (b ∷ []))
+        → length q ≡ length p
     lens i j k = omega arith
 
 pub label-other : (p q : List ℕ) (b : ℕ) → (p ≡ q → ⊥) → label p (q ++ (b ∷ [])) ≡ []
 label-other p q b h = go (label-shape p (q ++ (b ∷ [])))
   where
-    go : (label p (q ++ (b ∷ [])) ≡ []) ⊎ ((c : ℕ) × (label p (q ++ (b ∷ [])) ≡ c ∷ []) × (q ++ (b ∷ []) ≡ p ++ (c ∷ []))) → label p (q ++ (b ∷ [])) ≡ []
+    go : (label p (q ++ (b ∷ [])) ≡ []) ⊎ ((c : ℕ) × (label p (q ++ (b ∷ [])) ≡ c ∷ []) × (q ++ (b ∷ []) ≡ p ++ (c ∷ [])))
+        → label p (q ++ (b ∷ [])) ≡ []
     go (inl z) = z
     go (inr s) = absurd (h (sym (snoc-inj q p b (s .0) (s .2))))
 
@@ -73,5 +77,7 @@ id-snoc (u ∷ ts) t p low = go (same p (u .bytes)) (id-snoc ts t p (λ w m. low
   where
     go : (c : Bool) → idOf (ts ++ (t ∷ [])) p ≡ cond (eqb (idOf ts p) 0) (cond (same p (t .bytes)) (t .id) 0) (idOf ts p)
         → cond c (u .id) (idOf (ts ++ (t ∷ [])) p) ≡ cond (eqb (cond c (u .id) (idOf ts p)) 0) (cond (same p (t .bytes)) (t .id) 0) (cond c (u .id) (idOf ts p))
-    go true r = sym (ap (λ (c : Bool). cond c (cond (same p (t .bytes)) (t .id) 0) (u .id)) (ne-eqb (u .id) 0 (λ z. let k = low u (here refl) in omega arith)))
+    go true r =
+        sym (ap (λ (c : Bool). cond c (cond (same p (t .bytes)) (t .id) 0) (u .id))
+        (ne-eqb (u .id) 0 (λ z. let k = low u (here refl) in omega arith)))
     go false r = r

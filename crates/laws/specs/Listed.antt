@@ -38,7 +38,8 @@ module _ (ts : List Token) where
     unfolding tableWords words tableAt
     past i h = go (owner (labels (nodes ts)) (wordOf ts) (puts ts) i)
       where
-        go : (slotWord (labels (nodes ts)) (wordOf ts) (puts ts) i ≡ 0) ⊎ Owner (labels (nodes ts)) (wordOf ts) (puts ts) i → slotWord (labels (nodes ts)) (wordOf ts) (puts ts) i ≡ 0
+        go : (slotWord (labels (nodes ts)) (wordOf ts) (puts ts) i ≡ 0) ⊎ Owner (labels (nodes ts)) (wordOf ts) (puts ts) i
+            → slotWord (labels (nodes ts)) (wordOf ts) (puts ts) i ≡ 0
         go (inl z) = z
         go (inr o) =
             let t = top-le (o .mem) in
@@ -52,7 +53,8 @@ module _ (ts : List Token) where
     table-read i = go (either (ltb i (tableWords ts)))
       where
         go : Tested (ltb i (tableWords ts)) → getD (upFrom (tableAt ts) (tableWords ts) 0) i 0 ≡ tableAt ts i
-        go (inl e) = let z : 0 + i ≡ i = omega arith in up-at (tableAt ts) (tableWords ts) 0 i 0 (ltb-true i (tableWords ts) e) ∙ ap (tableAt ts) z
+        go (inl e) =
+            let z : 0 + i ≡ i = omega arith in up-at (tableAt ts) (tableWords ts) 0 i 0 (ltb-true i (tableWords ts) e) ∙ ap (tableAt ts) z
         go (inr e) =
             let h = ltb-false i (tableWords ts) e in
             let k = up-length (tableAt ts) (tableWords ts) 0 in

@@ -22,7 +22,7 @@ use Rattle.running.specs.Prefixes.{prefix-length}
 use Rattle.running.specs.Longest.{longest-iff, longest-none-iff}
 use Rattle.laws.specs.Tests.{Tested, either}
 use Rattle.laws.specs.Tokens.{id-cases, id-pos, id-low}
-use Rattle.laws.specs.Nodes.{Cut, node-is, is-node}
+use Rattle.laws.specs.Nodes.{Cut, node-is, token-node}
 use Rattle.laws.specs.Reads.{single-at}
 use Rattle.laws.specs.Walk.{Passed, cut-length, passed-start, passed-more, Reached, walk-cases}
 
@@ -31,19 +31,16 @@ use Rattle.laws.specs.Walk.{Passed, cut-length, passed-start, passed-mor
 -- where a token goes on beyond p along p ++ (d ∷ r), there is a node
 onward : {ts : List Token} (p : List ℕ) (d : ℕ) (r : List ℕ) (t : Token) → Mem t ts → 1 ≤ length p → length p < length (t .bytes)
     → Cut (t .bytes) (p ++ (d ∷ r)) → Mem (p ++ (d ∷ [])) (nodes ts)
-onward {ts} p d r t m one longer c = is-node ts (record { tok = t; mem = m; cut = record { rest = take k r; split = whole; two = omega (arith, len) } })
+onward {ts} p d r t m one longer c = token-node ts p d (take k r) m whole one
   where
     k : ℕ
     k = length (t .bytes) - suc (length p)
 
-    len : length (p ++ (d ∷ [])) ≡ length p + 1
-    len = length-append p (d ∷ [])
-
-    whole : t .bytes ≡ (p ++ (d ∷ [])) ++ take k r
+    whole : t .bytes ≡ p ++ (d ∷ take k r)
     whole =
         let e : length (t .bytes) ≡ length p + suc k = omega arith in
         sym (take-at (t .bytes) (c .rest) (length (t .bytes)) refl) ∙ ap (take (length (t .bytes))) (sym (c .split))
-        ∙ ap (λ (n : ℕ). take n (p ++ (d ∷ r))) e ∙ take-append-add p (d ∷ r) (suc k) ∙ sym (append-assoc p (d ∷ []) (take k r))
+        ∙ ap (λ (n : ℕ). take n (p ++ (d ∷ r))) e ∙ take-append-add p (d ∷ r) (suc k)
 
 module _ {m : Memory} {ts : List Token} (L : Loaded m ts) where
   -- no token reaches beyond the node that the walk came to
@@ -64,7 +61,8 @@ module _ {m : Memory} {ts : List Token} (L : Loaded m ts) where
           absurd (w .stops d r q (onward p d (r ++ drop 253 s) t n (omega (arith, two)) h (rw q at c)))
       at (inr e) [] q =
           let h = leb-false (length (t .bytes)) (length p) e in
-          let i : length (w .node) ≡ length (a ∷ b ∷ take 253 s) = ap length (sym (w .split ∙ ap (λ (z : List ℕ). w .node ++ z) q ∙ append-nil (w .node))) in
+          let i : length (w .node) ≡ length (a ∷ b ∷ take 253 s) =
+          ap length (sym (w .split ∙ ap (λ (z : List ℕ). w .node ++ z) q ∙ append-nil (w .node))) in
           let j = length-take 253 s in
           let l = cut-length c in
           let o = length-append p (w .rest ++ drop 253 s) in
@@ -82,12 +80,16 @@ module _ {m : Memory} {ts : List Token} (L : Loaded m ts) where
       K = walkOn m (a ∷ b ∷ s)
 
       go : ((K ≡ noWalk) × (Mem (a ∷ b ∷ []) (nodes ts) → ⊥)) ⊎ Reached ts (a ∷ b ∷ take 253 s) K → Passed ts (a ∷ b ∷ s) (K .id) (K .len)
-      go (inl (e, lacks)) = rw e (passed-more (a ∷ []) (b ∷ s) (passed-start ts a) (λ t n c. absurd (lacks (onward (a ∷ []) b s t n (lit< tt) (c .two) c))))
+      go (inl (e, lacks)) =
+          rw e (passed-more (a ∷ []) (b ∷ s) (passed-start ts a) (λ t n c. absurd (lacks (onward (a ∷ []) b s t n (lit< tt) (c .two) c))))
       go (inr w) =
-          subst (λ (z : List ℕ). Passed ts z (K .id) (K .len)) whole (passed-more (w .node) (w .rest ++ drop 253 s) (w .stands .passed) (within a b s K w))
+          subst (λ (z : List ℕ). Passed ts z (K .id) (K .len)) whole
+          (passed-more (w .node) (w .rest ++ drop 253 s) (w .stands .passed) (within a b s K w))
         where
           whole : w .node ++ (w .rest ++ drop 253 s) ≡ a ∷ b ∷ s
-          whole = sym (append-assoc (w .node) (w .rest) (drop 253 s)) ∙ ap (λ (z : List ℕ). z ++ drop 253 s) (sym (w .split)) ∙ ap (λ (z : List ℕ). a ∷ b ∷ z) (take-append-drop 253 s)
+          whole =
+              sym (append-assoc (w .node) (w .rest) (drop 253 s)) ∙ ap (λ (z : List ℕ). z ++ drop 253 s) (sym (w .split))
+              ∙ ap (λ (z : List ℕ). a ∷ b ∷ z) (take-append-drop 253 s)
 
 -- ---- matching
 
@@ -121,7 +123,8 @@ module _ {m : Memory} {ts : List Token} (L : Loaded m ts) (a : ℕ) (s : List �
   match-long : (i n : ℕ) → 1 ≤ i → Passed ts (a ∷ s) i n → found i n ≡ matchOf (longest ts (a ∷ s))
   match-long i n h w =
       let (t, k, c, e, l) = w .token h in
-      let top : (u : Token) → Mem u ts → Prefix (u .bytes) (a ∷ s) → length (u .bytes) ≤ length (t .bytes) = λ u j b. most t u c l j b (either (leb 2 (length (u .bytes)))) in
+      let top : (u : Token) → Mem u ts → Prefix (u .bytes) (a ∷ s) → length (u .bytes) ≤ length (t .bytes) =
+      λ u j b. most t u c l j b (either (leb 2 (length (u .bytes)))) in
       ap₂ found (sym e) (sym l) ∙ ap matchOf (sym (longest-iff ts v (a ∷ s) t .1 (k, (c .rest, c .split), top)))
     where
       most : (t u : Token) → Cut (t .bytes) (a ∷ s) → length (t .bytes) ≡ n → Mem u ts → Prefix (u .bytes) (a ∷ s)
@@ -137,20 +140,25 @@ module _ {m : Memory} {ts : List Token} (L : Loaded m ts) (a : ℕ) (s : List �
       length-one u k b = at (either (leb 2 (length (u .bytes))))
         where
           at : Tested (leb 2 (length (u .bytes))) → length (u .bytes) ≡ 1
-          at (inl e) = let c = prefix-cut (leb-true 2 (length (u .bytes)) e) b in let x = w .longest u k c in let z = w .none refl in let y = c .two in absurd (omega arith)
+          at (inl e) =
+              let c = prefix-cut (leb-true 2 (length (u .bytes)) e) b in
+              let x = w .longest u k c in let z = w .none refl in let y = c .two in absurd (omega arith)
           at (inr e) = let x = leb-false 2 (length (u .bytes)) e in let y = v .nonempty u k in omega arith
 
-      go : (idOf ts (a ∷ []) ≡ 0) ⊎ ((t : Token) × Mem t ts × (t .bytes ≡ a ∷ []) × (idOf ts (a ∷ []) ≡ t .id)) → one (idOrNone (idOf ts (a ∷ []))) ≡ matchOf (longest ts (a ∷ s))
+      go : (idOf ts (a ∷ []) ≡ 0) ⊎ ((t : Token) × Mem t ts × (t .bytes ≡ a ∷ []) × (idOf ts (a ∷ []) ≡ t .id))
+          → one (idOrNone (idOf ts (a ∷ []))) ≡ matchOf (longest ts (a ∷ s))
       go (inl z) = rw z (ap matchOf (sym (longest-none-iff ts (a ∷ s) .1 (λ u k b.
           let p = id-pos (a ∷ []) (id-low ts v) k (one-byte (u .bytes) a s (length-one u k b) b) in omega arith))))
       go (inr (t, k, e, j)) =
           let l : length (t .bytes) ≡ 1 = ap length e in
           rw j (one-found (t .id) (id-low ts v t k) ∙ ap (found (t .id)) (sym l)
-          ∙ ap matchOf (sym (longest-iff ts v (a ∷ s) t .1 (k, (s, ap (λ (z : List ℕ). z ++ s) (sym e)), λ u i b. let x = length-one u i b in omega arith))))
+          ∙ ap matchOf (sym (longest-iff ts v (a ∷ s) t .1
+          (k, (s, ap (λ (z : List ℕ). z ++ s) (sym e)), λ u i b. let x = length-one u i b in omega arith))))
 
 pub matching : Matching
 matching m ts L [] small =
-    unfold matchOn in ap matchOf (sym (longest-none-iff ts [] .1 (λ u k b. let x = L .valid .nonempty u k in let y = prefix-length (u .bytes) [] b in omega arith)))
+    unfold matchOn in ap matchOf
+    (sym (longest-none-iff ts [] .1 (λ u k b. let x = L .valid .nonempty u k in let y = prefix-length (u .bytes) [] b in omega arith)))
 matching m ts L (a ∷ s) small = go (K .id) refl (walk-passed L a s small)
   where
     K : Walk

@@ -2,7 +2,10 @@
 use mathlib.Core.Path.{_≡_, refl, sym, ap, ap₂, _∙_, subst}
 use mathlib.Core.Logic.{_⊎_, inl, inr}
 use mathlib.Core.Bool.{Bool, true, false, _&&_, _||_, cond, and-false, and-true, or-false}
-use mathlib.Core.List.{List, [], _∷_, _++_, append-assoc, List·Memᴰ as Mem, List·Memᴰ·head as here, List·Memᴰ·tail as there, List·Memᴰ·cases-cons as cases-cons, List·Memᴰ·not-nil as not-nil, List·Memᴰ·append-cases as append-cases, List·Memᴰ·eq-of-singleton as eq-of-singleton, Memᴰ·append-left as mem-left, Memᴰ·append-right as mem-right, Memᴰ·cast as mem-cast}
+use mathlib.Core.List.{List, [], _∷_, _++_, append-assoc, List·Memᴰ as Mem, List·Memᴰ·head as here, List·Memᴰ·tail as there}
+use mathlib.Core.List.{List·Memᴰ·cases-cons as cases-cons, List·Memᴰ·not-nil as not-nil, List·Memᴰ·append-cases as append-cases}
+use mathlib.Core.List.{List·Memᴰ·eq-of-singleton as eq-of-singleton, Memᴰ·append-left as mem-left, Memᴰ·append-right as mem-right}
+use mathlib.Core.List.{Memᴰ·cast as mem-cast}
 use Prim.Native.Nat.{ℕ, zero, suc, _+_, _≤_, _<_}
 use native.Mathlib.Omega.{arith}
 use lib.Dec.{eqb, lit<}
@@ -91,7 +94,8 @@ extended-cut p (b ∷ bs) {q} h m = go (cases-cons m) (extended-cut (p ++ (b ∷
     eq : p ++ (b ∷ bs) ≡ (p ++ (b ∷ [])) ++ bs
     eq = sym (append-assoc p (b ∷ []) bs)
 
-    go : (q ≡ p ++ (b ∷ [])) ⊎ Mem q (extended (p ++ (b ∷ [])) bs) → (1 ≤ length (p ++ (b ∷ [])) → Mem q (extended (p ++ (b ∷ [])) bs) → Cut q ((p ++ (b ∷ [])) ++ bs)) → Cut q (p ++ (b ∷ bs))
+    go : (q ≡ p ++ (b ∷ [])) ⊎ Mem q (extended (p ++ (b ∷ [])) bs)
+        → (1 ≤ length (p ++ (b ∷ [])) → Mem q (extended (p ++ (b ∷ [])) bs) → Cut q ((p ++ (b ∷ [])) ++ bs)) → Cut q (p ++ (b ∷ bs))
     go (inl e) r = record { rest = bs; split = eq ∙ ap (λ (z : List ℕ). z ++ bs) (sym e); two = let k = ap length e in omega (arith, len) }
     go (inr n) r = subst (Cut q) (sym eq) (r (omega (arith, len)) n)
 
@@ -111,6 +115,13 @@ cut-cuts s [] c = let h = c .two in absurd (omega arith)
 cut-cuts s (a ∷ []) c = let h = c .two in absurd (omega arith)
 cut-cuts s (a ∷ b ∷ q) c = subst (λ (z : List ℕ). Mem (a ∷ b ∷ q) (cuts z)) (sym (c .split)) (cut-extended (a ∷ []) b q (c .rest))
 
+cut-trans : {p q s : List ℕ} → Cut p q → Cut q s → Cut p s
+cut-trans {p} c e = record {
+  rest = c .rest ++ e .rest;
+  split = e .split ∙ ap (λ (z : List ℕ). z ++ e .rest) (c .split) ∙ append-assoc p (c .rest) (e .rest);
+  two = c .two;
+}
+
 -- ---- the nodes
 
 pub record IsNode (ts : List Token) (q : List ℕ) : Type 0 where
@@ -125,11 +136,25 @@ module _ (ts : List Token) where
     where
       go : Mem q [] ⊎ Mem q (each (λ (t : Token). cuts (t .bytes)) ts) → IsNode ts q
       go (inl n) = absurd (not-nil n)
-      go (inr n) = let r = each-find (λ (t : Token). cuts (t .bytes)) ts n in record { tok = r .0; mem = r .1; cut = cuts-cut (r .0 .bytes) (r .2) }
+      go (inr n) =
+          let r = each-find (λ (t : Token). cuts (t .bytes)) ts n in record { tok = r .0; mem = r .1; cut = cuts-cut (r .0 .bytes) (r .2) }
 
   pub is-node : {q : List ℕ} → IsNode ts q → Mem q (nodes ts)
   unfolding nodes
-  is-node {q} n = all-has (each (λ (t : Token). cuts (t .bytes)) ts) [] (each-mem (λ (t : Token). cuts (t .bytes)) (n .mem) (cut-cuts (n .tok .bytes) q (n .cut)))
+  is-node {q} n =
+      all-has (each (λ (t : Token). cuts (t .bytes)) ts) []
+      (each-mem (λ (t : Token). cuts (t .bytes)) (n .mem) (cut-cuts (n .tok .bytes) q (n .cut)))
+
+  -- a token that goes on beyond p, which is not empty, makes a node of p and its next byte
+  pub token-node : {t : Token} (p : List ℕ) (c : ℕ) (r : List ℕ) → Mem t ts → t .bytes ≡ p ++ (c ∷ r) → 1 ≤ length p
+      → Mem (p ++ (c ∷ [])) (nodes ts)
+  token-node {t} p c r m e h =
+      let len : length (p ++ (c ∷ [])) ≡ length p + 1 = length-append p (c ∷ []) in
+      is-node (record { tok = t; mem = m; cut = record { rest = r; split = e ∙ sym (append-assoc p (c ∷ []) r); two = omega arith } })
+
+  -- the beginnings of a node are nodes
+  pub node-cut : {p q : List ℕ} → Cut p q → Mem q (nodes ts) → Mem p (nodes ts)
+  node-cut {p} c m = let n = node-is m in is-node (record { tok = n .tok; mem = n .mem; cut = cut-trans c (n .cut) })
 
 -- ---- labels
 
@@ -185,15 +210,23 @@ label-short (x ∷ p) (y ∷ q) = go (eqb x y) (label-short p q)
 pub labels-short : (ps : List (List ℕ)) (p : List ℕ) → length (labels ps p) ≤ length ps
 unfolding labels each
 labels-short [] p = omega arith
-labels-short (q ∷ ps) p = let a = label-short p q in let b = labels-short ps p in let c = length-append (label p q) (each (label p) ps) in omega arith
+labels-short (q ∷ ps) p =
+    let a = label-short p q in let b = labels-short ps p in let c = length-append (label p q) (each (label p) ps) in omega arith
 
 module _ (ps : List (List ℕ)) where
+  pub with-count : (c : ℕ) {p : List ℕ} → Mem p (withCount ps c) → Mem p ps × (length (labels ps p) ≡ c)
+  unfolding withCount
+  with-count c {p} m =
+      let f = keep-find (λ (q : List ℕ). eqb (length (labels ps q)) c) ps m in
+      (f .0, eqb-true (length (labels ps p)) c (f .1))
+
   falling-mem : (n : ℕ) (p : List ℕ) → Mem p ps → 1 ≤ length (labels ps p) → length (labels ps p) ≤ n → Mem p (falling ps n)
   unfolding falling withCount
   falling-mem zero p m a b = absurd (omega arith)
   falling-mem (suc n) p m a b = go (either (eqb (length (labels ps p)) (suc n))) (falling-mem n p m a)
     where
-      go : Tested (eqb (length (labels ps p)) (suc n)) → (length (labels ps p) ≤ n → Mem p (falling ps n)) → Mem p (withCount ps (suc n) ++ falling ps n)
+      go : Tested (eqb (length (labels ps p)) (suc n)) → (length (labels ps p) ≤ n → Mem p (falling ps n))
+          → Mem p (withCount ps (suc n) ++ falling ps n)
       go (inl e) r = mem-left (falling ps n) (keep-mem (λ (q : List ℕ). eqb (length (labels ps q)) (suc n)) m e)
       go (inr e) r = let ne = eqb-false (length (labels ps p)) (suc n) e in mem-right (withCount ps (suc n)) (r (omega (arith, ne)))
 
@@ -202,8 +235,9 @@ module _ (ps : List (List ℕ)) where
   falling-find zero m = absurd (not-nil m)
   falling-find (suc n) {p} m = go (append-cases (withCount ps (suc n)) m) (falling-find n)
     where
-      go : Mem p (withCount ps (suc n)) ⊎ Mem p (falling ps n) → (Mem p (falling ps n) → Mem p ps × (1 ≤ length (labels ps p))) → Mem p ps × (1 ≤ length (labels ps p))
-      go (inl k) r = let f = keep-find (λ (q : List ℕ). eqb (length (labels ps q)) (suc n)) ps k in let e = eqb-true (length (labels ps p)) (suc n) (f .1) in (f .0, omega arith)
+      go : Mem p (withCount ps (suc n)) ⊎ Mem p (falling ps n) → (Mem p (falling ps n) → Mem p ps × (1 ≤ length (labels ps p)))
+          → Mem p ps × (1 ≤ length (labels ps p))
+      go (inl k) r = let (n, e) = with-count (suc n) k in (n, omega arith)
       go (inr k) r = r k
 
   pub order-mem : (p : List ℕ) → Mem p ps → 1 ≤ length (labels ps p) → Mem p (order ps)

@@ -2,7 +2,9 @@
 use mathlib.Core.Path.{_≡_, refl, sym, ap, ap₂, _∙_, subst}
 use mathlib.Core.Logic.{_⊎_, inl, inr}
 use mathlib.Core.Bool.{Bool, true, false, not, cond, false≢true}
-use mathlib.Core.List.{List, [], _∷_, _++_, map, List·Memᴰ as Mem, List·Memᴰ·head as here, List·Memᴰ·tail as there, List·Memᴰ·not-nil as not-nil, List·Memᴰ·append-cases as append-cases, List·Memᴰ·eq-of-singleton as eq-of-singleton, Memᴰ·cast as mem-cast, Memᴰ·of-map as mem-of-map}
+use mathlib.Core.List.{List, [], _∷_, _++_, map, List·Memᴰ as Mem, List·Memᴰ·head as here, List·Memᴰ·tail as there}
+use mathlib.Core.List.{List·Memᴰ·not-nil as not-nil, List·Memᴰ·append-cases as append-cases, List·Memᴰ·eq-of-singleton as eq-of-singleton}
+use mathlib.Core.List.{Memᴰ·cast as mem-cast, Memᴰ·of-map as mem-of-map}
 use Prim.Native.Nat.{ℕ, zero, suc, _+_, _≤_, _<_}
 use native.Mathlib.Omega.{arith}
 use lib.Dec.{eqb}
@@ -42,7 +44,8 @@ place-lt {p} (there {x = q} {xs = ps} m) = go (same p q) (place-lt m)
 
 pub at-place : {ps : List (List ℕ)} {p : List ℕ} → Mem p ps → getD ps (place-of ps p) [] ≡ p
 unfolding place-of
-at-place {p} (here {x = q} {xs = ps} e) = ap (λ (c : Bool). getD (q ∷ ps) (cond c zero (suc (place-of ps p))) []) (ap (same p) (sym e) ∙ same-refl p) ∙ sym e
+at-place {p} (here {x = q} {xs = ps} e) =
+    ap (λ (c : Bool). getD (q ∷ ps) (cond c zero (suc (place-of ps p))) []) (ap (same p) (sym e) ∙ same-refl p) ∙ sym e
 at-place {p} (there {x = q} {xs = ps} m) = go (same p q) refl (at-place m)
   where
     go : (c : Bool) → same p q ≡ c → getD ps (place-of ps p) [] ≡ p → getD (q ∷ ps) (cond c zero (suc (place-of ps p))) [] ≡ p
@@ -125,7 +128,8 @@ labels-fresh (q ∷ ps) p f = go (label-shape p q) (labels-fresh ps p (f .1))
   where
     go : (label p q ≡ []) ⊎ ((b : ℕ) × (label p q ≡ b ∷ []) × (q ≡ p ++ (b ∷ []))) → Fresh (labels ps p) → Fresh (label p q ++ labels ps p)
     go (inl z) r = subst (λ (l : List ℕ). Fresh (l ++ labels ps p)) (sym z) r
-    go (inr s) r = subst (λ (l : List ℕ). Fresh (l ++ labels ps p)) (sym (s .1)) ((λ m. f .0 (mem-cast (s .2) (label-node ps p (s .0) m))), r)
+    go (inr s) r =
+        subst (λ (l : List ℕ). Fresh (l ++ labels ps p)) (sym (s .1)) ((λ m. f .0 (mem-cast (s .2) (label-node ps p (s .0) m))), r)
 
 -- ---- distinct numbers below n are at most n
 
@@ -141,7 +145,8 @@ keep-fresh f (x ∷ l) h = go (f x) (keep-fresh f l (h .1))
 keep-all : (f : ℕ → Bool) (l : List ℕ) → ((x : ℕ) → Mem x l → f x ≡ true) → keep f l ≡ l
 unfolding keep
 keep-all f [] h = refl
-keep-all f (x ∷ l) h = ap (λ (c : Bool). cond c (x ∷ keep f l) (keep f l)) (h x (here refl)) ∙ ap (λ (z : List ℕ). x ∷ z) (keep-all f l (λ y m. h y (there m)))
+keep-all f (x ∷ l) h =
+    ap (λ (c : Bool). cond c (x ∷ keep f l) (keep f l)) (h x (here refl)) ∙ ap (λ (z : List ℕ). x ∷ z) (keep-all f l (λ y m. h y (there m)))
 
 one-off : (n : ℕ) (l : List ℕ) → Fresh l → length l ≤ suc (length (keep (λ x. not (eqb n x)) l))
 unfolding keep
@@ -151,7 +156,8 @@ one-off n (x ∷ l) h = go (eqb n x) refl (one-off n l (h .1))
     f : ℕ → Bool
     f y = not (eqb n y)
 
-    go : (c : Bool) → eqb n x ≡ c → length l ≤ suc (length (keep f l)) → suc (length l) ≤ suc (length (cond (not c) (x ∷ keep f l) (keep f l)))
+    go : (c : Bool) → eqb n x ≡ c → length l ≤ suc (length (keep f l))
+        → suc (length l) ≤ suc (length (cond (not c) (x ∷ keep f l) (keep f l)))
     go false e r = omega arith
     go true e r = let k = ap length (keep-all f l others) in omega arith
       where
@@ -164,7 +170,8 @@ pigeon zero (x ∷ l) f h = let k = h x (here refl) in absurd (omega arith)
 pigeon (suc n) l f h =
     let a = one-off n l f in
     let b = pigeon n (keep (λ x. not (eqb n x)) l) (keep-fresh (λ x. not (eqb n x)) l f)
-    (λ x m. let r = keep-find (λ x. not (eqb n x)) l m in let lt = h x (r .0) in let ne = eqb-false n x (not-true (eqb n x) (r .1)) in lower x lt ne) in
+    (λ x m. let r = keep-find (λ x. not (eqb n x)) l m in let lt = h x (r .0) in let ne = eqb-false n x
+    (not-true (eqb n x) (r .1)) in lower x lt ne) in
     omega arith
   where
     lower : (x : ℕ) → x < suc n → (n ≡ x → ⊥) → x < n
@@ -176,7 +183,8 @@ count-small ts v p = pigeon 256 (labels (nodes ts) p) (labels-fresh (nodes ts) p
 -- a list without repeats, all of whose members are in another, is no longer than it
 pub fresh-within : (qs ps : List (List ℕ)) → Fresh qs → ((p : List ℕ) → Mem p qs → Mem p ps) → length qs ≤ length ps
 fresh-within qs ps f h =
-    let d : length (map (place-of ps) qs) ≤ length ps = pigeon (length ps) (map (place-of ps) qs) (fresh-map (place-of ps) qs f same-place) below in
+    let d : length (map (place-of ps) qs) ≤ length ps =
+    pigeon (length ps) (map (place-of ps) qs) (fresh-map (place-of ps) qs f same-place) below in
     omega (arith, length-map qs (place-of ps))
   where
     same-place : (p q : List ℕ) → Mem p qs → Mem q qs → place-of ps p ≡ place-of ps q → p ≡ q
@@ -191,7 +199,8 @@ none-with : (ps qs : List (List ℕ)) (c : ℕ) → ((p : List ℕ) → length (
 unfolding keep
 none-with ps [] c h = refl
 none-with ps (q ∷ qs) c h =
-    ap (λ (d : Bool). cond d (q ∷ keep (λ p. eqb (length (labels ps p)) c) qs) (keep (λ p. eqb (length (labels ps p)) c) qs)) (no-true (eqb (length (labels ps q)) c) (λ e. let k = eqb-true (length (labels ps q)) c e in let l = h q in omega arith))
+    ap (λ (d : Bool). cond d (q ∷ keep (λ p. eqb (length (labels ps p)) c) qs) (keep (λ p. eqb (length (labels ps p)) c) qs))
+    (no-true (eqb (length (labels ps q)) c) (λ e. let k = eqb-true (length (labels ps q)) c e in let l = h q in omega arith))
     ∙ none-with ps qs c h
 
 falling-more : (ps : List (List ℕ)) (n d : ℕ) → ((p : List ℕ) → length (labels ps p) ≤ n) → falling ps (n + d) ≡ falling ps n
@@ -199,9 +208,12 @@ unfolding falling withCount
 falling-more ps n zero h = let e : n + 0 ≡ n = omega arith in ap (falling ps) e
 falling-more ps n (suc d) h =
     let e : n + suc d ≡ suc (n + d) = omega arith in
-    ap (falling ps) e ∙ ap (λ (l : List (List ℕ)). l ++ falling ps (n + d)) (none-with ps ps (suc (n + d)) (λ p. let k = h p in omega arith)) ∙ falling-more ps n d h
+    ap (falling ps) e
+    ∙ ap (λ (l : List (List ℕ)). l ++ falling ps (n + d)) (none-with ps ps (suc (n + d)) (λ p. let k = h p in omega arith))
+    ∙ falling-more ps n d h
 
-pub falling-any : (ps : List (List ℕ)) (n m : ℕ) → ((p : List ℕ) → length (labels ps p) ≤ n) → ((p : List ℕ) → length (labels ps p) ≤ m) → falling ps n ≡ falling ps m
+pub falling-any : (ps : List (List ℕ)) (n m : ℕ) → ((p : List ℕ) → length (labels ps p) ≤ n) → ((p : List ℕ) → length (labels ps p) ≤ m)
+    → falling ps n ≡ falling ps m
 falling-any ps n m h k =
     let a : n + m ≡ m + n = omega arith in
     sym (falling-more ps n m h) ∙ ap (falling ps) a ∙ falling-more ps m n k

@@ -37,11 +37,15 @@ bit-lt w i = mod-lt (w / 2 ^ i) (zero-lt-suc 1)
 
 pub bit-and : (a b i : ℕ) → bit (bitAnd a b) i ≡ min (bit a i) (bit b i)
 unfolding bit
-bit-and a b i = ap (λ (z : ℕ). z % 2) (and-shr a b i) ∙ and-mod (a / 2 ^ i) (b / 2 ^ i) 1 ∙ and-digit (a / 2 ^ i % 2) (b / 2 ^ i % 2) (mod-lt (a / 2 ^ i) (zero-lt-suc 1)) (mod-lt (b / 2 ^ i) (zero-lt-suc 1))
+bit-and a b i =
+    ap (λ (z : ℕ). z % 2) (and-shr a b i) ∙ and-mod (a / 2 ^ i) (b / 2 ^ i) 1
+    ∙ and-digit (a / 2 ^ i % 2) (b / 2 ^ i % 2) (mod-lt (a / 2 ^ i) (zero-lt-suc 1)) (mod-lt (b / 2 ^ i) (zero-lt-suc 1))
 
 pub bit-or : (a b i : ℕ) → bit (bitOr a b) i ≡ max (bit a i) (bit b i)
 unfolding bit
-bit-or a b i = ap (λ (z : ℕ). z % 2) (or-shr a b i) ∙ or-mod (a / 2 ^ i) (b / 2 ^ i) 1 ∙ or-digit (a / 2 ^ i % 2) (b / 2 ^ i % 2) (mod-lt (a / 2 ^ i) (zero-lt-suc 1)) (mod-lt (b / 2 ^ i) (zero-lt-suc 1))
+bit-or a b i =
+    ap (λ (z : ℕ). z % 2) (or-shr a b i) ∙ or-mod (a / 2 ^ i) (b / 2 ^ i) 1
+    ∙ or-digit (a / 2 ^ i % 2) (b / 2 ^ i % 2) (mod-lt (a / 2 ^ i) (zero-lt-suc 1)) (mod-lt (b / 2 ^ i) (zero-lt-suc 1))
 
 pub bit-shr : (w s i : ℕ) → bit (w / 2 ^ s) i ≡ bit w (s + i)
 unfolding bit
@@ -85,13 +89,17 @@ swaps m s i = (eqb (bit m i) 1 && (eqb (bitXor i s) (s + i) && (ltb i s || eqb (
 
 stage-bits : (m s w i : ℕ) → bit (stage m s w) i ≡ max (bit (bitAnd w m * 2 ^ s) i) (min (bit w (s + i)) (bit m i))
 unfolding stage
-stage-bits m s w i = bit-or (bitAnd w m * 2 ^ s) (bitAnd (w / 2 ^ s) m) i ∙ ap (max (bit (bitAnd w m * 2 ^ s) i)) (bit-and (w / 2 ^ s) m i ∙ ap (λ (z : ℕ). min z (bit m i)) (bit-shr w s i))
+stage-bits m s w i =
+    bit-or (bitAnd w m * 2 ^ s) (bitAnd (w / 2 ^ s) m) i
+    ∙ ap (max (bit (bitAnd w m * 2 ^ s) i)) (bit-and (w / 2 ^ s) m i ∙ ap (λ (z : ℕ). min z (bit m i)) (bit-shr w s i))
 
 low-part : (m s w i : ℕ) → i < s → bit (bitAnd w m * 2 ^ s) i ≡ 0
-low-part m s w i h = let e : s ≡ suc (s - suc i) + i = omega arith in ap (λ (z : ℕ). bit (bitAnd w m * 2 ^ z) i) e ∙ bit-shl-low (bitAnd w m) i (s - suc i)
+low-part m s w i h =
+    let e : s ≡ suc (s - suc i) + i = omega arith in ap (λ (z : ℕ). bit (bitAnd w m * 2 ^ z) i) e ∙ bit-shl-low (bitAnd w m) i (s - suc i)
 
 high-part : (m s w i : ℕ) → s ≤ i → bit (bitAnd w m * 2 ^ s) i ≡ min (bit w (i - s)) (bit m (i - s))
-high-part m s w i h = let e : i ≡ s + (i - s) = omega arith in ap (bit (bitAnd w m * 2 ^ s)) e ∙ bit-shl-high (bitAnd w m) s (i - s) ∙ bit-and w m (i - s)
+high-part m s w i h =
+    let e : i ≡ s + (i - s) = omega arith in ap (bit (bitAnd w m * 2 ^ s)) e ∙ bit-shl-high (bitAnd w m) s (i - s) ∙ bit-and w m (i - s)
 
 pub stage-bit : (m s w i : ℕ) → swaps m s i ≡ true → bit (stage m s w) i ≡ bit w (bitXor i s)
 unfolding swaps
@@ -109,9 +117,11 @@ stage-bit m s w i e = stage-bits m s w i ∙ go (or-cases _ _ e)
       where
         at : Tested (ltb i s) → bit (bitAnd w m * 2 ^ s) i ≡ 0
         at (inl k) = low-part m s w i (ltb-true i s k)
-        at (inr k) = high-part m s w i (ltb-false i s k) ∙ ap (min (bit w (i - s))) (eqb-true (bit m (i - s)) 0 h) ∙ min-zero (bit w (i - s))
+        at (inr k) =
+            high-part m s w i (ltb-false i s k) ∙ ap (min (bit w (i - s))) (eqb-true (bit m (i - s)) 0 h) ∙ min-zero (bit w (i - s))
 
-    go : ((eqb (bit m i) 1 && Up) ≡ true) ⊎ ((eqb (bit m i) 0 && Down) ≡ true) → max (bit (bitAnd w m * 2 ^ s) i) (min (bit w (s + i)) (bit m i)) ≡ bit w (bitXor i s)
+    go : ((eqb (bit m i) 1 && Up) ≡ true) ⊎ ((eqb (bit m i) 0 && Down) ≡ true)
+        → max (bit (bitAnd w m * 2 ^ s) i) (min (bit w (s + i)) (bit m i)) ≡ bit w (bitXor i s)
     go (inl t) =
         let u = and-r (eqb (bit m i) 1) Up t in
         let mi = eqb-true (bit m i) 1 (and-l (eqb (bit m i) 1) Up t) in
@@ -214,4 +224,5 @@ perm-bit w d i hd hi =
     ∙ maybe-bit 0x5555555555555555 1 d w i1 m0-ok h1
     ∙ ap (bit w) (eqb-true (moved 1 d i1) (bitXor i d)
     (below 64 (λ k. eqb (moved 1 d (moved 2 d (moved 4 d (moved 8 d (moved 16 d (moved 32 d k)))))) (bitXor k d))
-    (below 64 (λ c. allBelow 64 (λ k. eqb (moved 1 c (moved 2 c (moved 4 c (moved 8 c (moved 16 c (moved 32 c k)))))) (bitXor k c))) all-moved d hd) i hi))
+    (below 64 (λ c. allBelow 64
+    (λ k. eqb (moved 1 c (moved 2 c (moved 4 c (moved 8 c (moved 16 c (moved 32 c k)))))) (bitXor k c))) all-moved d hd) i hi))

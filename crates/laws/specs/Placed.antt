@@ -2,7 +2,9 @@
 use mathlib.Core.Path.{_≡_, refl, sym, ap, ap₂, _∙_}
 use mathlib.Core.Logic.{_⊎_, inl, inr}
 use mathlib.Core.Bool.{Bool, true, false, not, _&&_, _||_, and-false}
-use mathlib.Core.List.{List, [], _∷_, map, List·Memᴰ as Mem, List·Memᴰ·head as here, List·Memᴰ·tail as there, List·Memᴰ·cases-cons as cases-cons, List·Memᴰ·not-nil as not-nil, Memᴰ·cast as mem-cast, Memᴰ·of-map as mem-of-map, Memᴰ·map as mem-map}
+use mathlib.Core.List.{List, [], _∷_, map, List·Memᴰ as Mem, List·Memᴰ·head as here, List·Memᴰ·tail as there}
+use mathlib.Core.List.{List·Memᴰ·cases-cons as cases-cons, List·Memᴰ·not-nil as not-nil, Memᴰ·cast as mem-cast, Memᴰ·of-map as mem-of-map}
+use mathlib.Core.List.{Memᴰ·map as mem-map}
 use Prim.Native.Nat.{ℕ, _+_, _/_, _-_, _≤_, _<_}
 use native.Mathlib.Omega.{arith}
 use lib.Bits.{bitXor, xor-comm}
@@ -24,7 +26,9 @@ top-le (there {x = y} {xs = xs} m) = let p = top-le m in omega arith
 
 abbrev pub Good : (List ℕ → List ℕ) → List Put → Type 0
 Good L [] = Unit {0}
-Good L (x ∷ xs) = (1 ≤ x .base / 256) × (used xs (x .base) ≡ false) × ((l : ℕ) → Mem l (L (x .node)) → taken L xs (bitXor (x .base) l) ≡ false) × Good L xs
+Good L (x ∷ xs) =
+    (1 ≤ x .base / 256) × (used xs (x .base) ≡ false) ×
+    ((l : ℕ) → Mem l (L (x .node)) → taken L xs (bitXor (x .base) l) ≡ false) × Good L xs
 
 pub used-mem : {x : Put} {xs : List Put} (b : ℕ) → Mem x xs → b ≡ x .base → used xs b ≡ true
 unfolding used
@@ -47,12 +51,14 @@ module _ (L : List ℕ → List ℕ) where
       go (inr p) (inl q) r = absurd (clash (used-mem (z .base) p (ap (λ (w : Put). w .base) (sym q) ∙ sym e)) (g .1))
       go (inr p) (inr q) r = r p q
 
-  pub free-good : (xs : List Put) (p : List ℕ) (b : ℕ) → 1 ≤ b / 256 → free L xs (L p) b ≡ true → Good L xs → Good L (record { node = p; base = b } ∷ xs)
+  pub free-good : (xs : List Put) (p : List ℕ) (b : ℕ) → 1 ≤ b / 256 → free L xs (L p) b ≡ true → Good L xs
+      → Good L (record { node = p; base = b } ∷ xs)
   unfolding free
   free-good xs p b h e g = (
     h,
     not-true (used xs b) (and-l (not (used xs b)) _ e),
-    (λ l m. any-none (λ (k : ℕ). taken L xs (bitXor b k)) (not-true (any (λ (k : ℕ). taken L xs (bitXor b k)) (L p)) (and-r (not (used xs b)) _ e)) m),
+    (λ l m. any-none (λ (k : ℕ). taken L xs (bitXor b k))
+        (not-true (any (λ (k : ℕ). taken L xs (bitXor b k)) (L p)) (and-r (not (used xs b)) _ e)) m),
     g,
   )
 
@@ -103,7 +109,8 @@ module _ (L : List ℕ → List ℕ) where
 
     -- no smaller slot from 256 on would do
     pub choose-least : (xs : List Put) (p : List ℕ) (t : ℕ) → 256 ≤ t
-        → t < firstFrom (λ s. free L xs (L p) (bitXor s (first (L p)))) (words xs - 256) 256 → free L xs (L p) (bitXor t (first (L p))) ≡ false
+        → t < firstFrom (λ s. free L xs (L p) (bitXor s (first (L p)))) (words xs - 256) 256
+        → free L xs (L p) (bitXor t (first (L p))) ≡ false
     choose-least xs p t h k = least (λ s. free L xs (L p) (bitXor s (first (L p)))) (words xs - 256) 256 t h k
 
     pub put-good : (xs : List Put) (p : List ℕ) → Good L xs → Good L (put L xs p)
@@ -125,7 +132,8 @@ module _ (L : List ℕ → List ℕ) where
   unfolding free used taken any
   grows xs x ls b e = no-true _ (λ t. clash (both U M (λ u. clash (or-r (eqb b (x .base)) U u) (not-true U′ (and-l (not U′) (not M′) t)))
       (λ u. let r = any-find (λ (l : ℕ). taken L xs (bitXor b l)) ls u in
-      clash (any-mem (λ (l : ℕ). taken L (x ∷ xs) (bitXor b l)) (r .1) (or-r (byteIn (map (bitXor (x .base)) (L (x .node))) (bitXor b (r .0))) (taken L xs (bitXor b (r .0))) (r .2)))
+      clash (any-mem (λ (l : ℕ). taken L (x ∷ xs) (bitXor b l)) (r .1)
+      (or-r (byteIn (map (bitXor (x .base)) (L (x .node))) (bitXor b (r .0))) (taken L xs (bitXor b (r .0))) (r .2)))
       (not-true M′ (and-r (not U′) (not M′) t)))) e)
     where
       U : Bool
@@ -149,7 +157,8 @@ module _ (L : List ℕ → List ℕ) where
   pub taken-refused : (xs : List Put) (l : ℕ) (ls : List ℕ) (s : ℕ) → taken L xs s ≡ true → free L xs (l ∷ ls) (bitXor s l) ≡ false
   unfolding free any
   taken-refused xs l ls s t =
-      ap (λ (c : Bool). not (used xs (bitXor s l)) && not (c || any (λ (k : ℕ). taken L xs (bitXor (bitXor s l) k)) ls)) (ap (taken L xs) back ∙ t)
+      ap (λ (c : Bool). not (used xs (bitXor s l)) && not (c || any (λ (k : ℕ). taken L xs (bitXor (bitXor s l) k)) ls))
+      (ap (taken L xs) back ∙ t)
       ∙ and-false (not (used xs (bitXor s l)))
     where
       back : bitXor (bitXor s l) l ≡ s

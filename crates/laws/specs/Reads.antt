@@ -7,14 +7,16 @@ use Prim.Native.Nat.{ℕ, _+_, _-_, _≤_, _<_}
 use native.Mathlib.Omega.{arith}
 use lib.Dec.{ltb}
 use lib.IntN.{pos}
-use lib.ListN.{length, take, getD, List·getD-eq-default, length-append, replicate, length-replicate, getD-replicate, drop, length-drop, List·getD-append}
+use lib.ListN.{length, take, getD, List·getD-eq-default, length-append, replicate, length-replicate, getD-replicate, drop, length-drop}
+use lib.ListN.{List·getD-append}
 use lib.Seq.{take-at, getD-take, getD-append-add}
 use borrow.Author.Tests.{ltb-true, ltb-false}
 use Rattle.spec.specs.Lists.{upFrom, over}
 use Rattle.spec.specs.Token.{Token, idOf}
 use Rattle.spec.specs.Layout.{tableAt, rootAt, tableWords}
 use Rattle.spec.specs.Valid.{Valid}
-use Rattle.spec.specs.Memory.{Memory, tooShort, idOrNone, lengthBefore, singleList, offsetList, blobBytes, rootList, tableList, padded, memoryOf, Loaded}
+use Rattle.spec.specs.Memory.{Memory, tooShort, idOrNone, lengthBefore, singleList, offsetList, blobBytes, rootList, tableList, padded}
+use Rattle.spec.specs.Memory.{memoryOf, Loaded}
 use Rattle.laws.specs.Tests.{Tested, either, neither}
 use Rattle.laws.specs.Listed.{up-length, up-at, table-read}
 
@@ -41,7 +43,8 @@ padded-read l n i = go (either (ltb i (length l)))
     go (inr e) =
         let h = ltb-false i (length l) e in
         let j : i ≡ length l + (i - length l) = omega arith in
-        ap (λ (z : ℕ). getD (l ++ replicate n 0) z 0) j ∙ getD-append-add l (replicate n 0) (i - length l) 0 ∙ replicate-read n (i - length l)
+        ap (λ (z : ℕ). getD (l ++ replicate n 0) z 0) j ∙ getD-append-add l (replicate n 0) (i - length l) 0
+        ∙ replicate-read n (i - length l)
         ∙ sym (List·getD-eq-default l 0 h)
 
 module _ {m : Memory} {ts : List Token} (L : Loaded m ts) where
@@ -110,7 +113,8 @@ long-enough m e =
       roots = ltb-false (length (m .roots)) 65536 (b .1);
     }
 
-module _ (ts : List Token) (m : Memory) (long : tooShort m ≡ false) (blob-room : length (blobBytes ts) ≤ length (m .blob)) (table-room : tableWords ts ≤ length (m .table)) where
+module _ (ts : List Token) (m : Memory) (long : tooShort m ≡ false) (blob-room : length (blobBytes ts) ≤ length (m .blob))
+    (table-room : tableWords ts ≤ length (m .table)) where
   -- a load keeps the lengths of the five parts
   pub record SameLengths : Type 0 where
     pub single : length (memoryOf ts m .single) ≡ length (m .single)

@@ -43,7 +43,8 @@ bit-off j i ne = go (either (ltb i j))
       where
         small : 2 ^ j / 2 ^ i ≡ 0
         small = let h = ltb-false i j e in let lt : j < i = omega (arith, ne) in
-            let d : 2 ^ j / 2 ^ i < 1 = div-lt-iff-lt-mul (pow-pos i) .1 (subst (λ (z : ℕ). 2 ^ j < z) (sym (one-mul (2 ^ i))) (pow-lt lt)) in omega arith
+            let d : 2 ^ j / 2 ^ i < 1 =
+            div-lt-iff-lt-mul (pow-pos i) .1 (subst (λ (z : ℕ). 2 ^ j < z) (sym (one-mul (2 ^ i))) (pow-lt lt)) in omega arith
 
 or-mark : (W i j : ℕ) → eqb (bit (bitOr W (2 ^ j)) i) 1 ≡ (eqb (bit W i) 1 || eqb i j)
 or-mark W i j = go (either (eqb i j))
@@ -70,7 +71,8 @@ mark-is M s t h = go (either (eqb (t / 64) (s / 64)))
     new : ℕ
     new = bitOr (getD M (s / 64) 0) (2 ^ (s % 64))
 
-    go : Tested (eqb (t / 64) (s / 64)) → eqb (bit (getD (set M (s / 64) new) (t / 64) 0) (t % 64)) 1 ≡ (eqb (bit (getD M (t / 64) 0) (t % 64)) 1 || eqb t s)
+    go : Tested (eqb (t / 64) (s / 64))
+        → eqb (bit (getD (set M (s / 64) new) (t / 64) 0) (t % 64)) 1 ≡ (eqb (bit (getD M (t / 64) 0) (t % 64)) 1 || eqb t s)
     go (inl e) =
         let q = eqb-true (t / 64) (s / 64) e in
         ap (λ (z : ℕ). eqb (bit (getD (set M (s / 64) new) z 0) (t % 64)) 1) q
@@ -79,7 +81,9 @@ mark-is M s t h = go (either (eqb (t / 64) (s / 64)))
         ∙ ap₂ (λ (z : ℕ) (c : Bool). eqb (bit (getD M z 0) (t % 64)) 1 || c) (sym q) (low q)
       where
         low : t / 64 ≡ s / 64 → eqb (t % 64) (s % 64) ≡ eqb t s
-        low q = iff-eq _ _ (λ a. let x = eqb-true (t % 64) (s % 64) a in eq-eqb t s (omega arith)) (λ a. let x = eqb-true t s a in eq-eqb (t % 64) (s % 64) (omega arith))
+        low q =
+            iff-eq _ _ (λ a. let x = eqb-true (t % 64) (s % 64) a in eq-eqb t s (omega arith))
+            (λ a. let x = eqb-true t s a in eq-eqb (t % 64) (s % 64) (omega arith))
     go (inr e) =
         let ne = eqb-false (t / 64) (s / 64) e in
         let off : eqb t s ≡ false = no-true (eqb t s) (λ a. ne (ap (λ (z : ℕ). z / 64) (eqb-true t s a))) in
@@ -97,12 +101,14 @@ unfolding clashWord
 clashes M B w l1 [] acc = acc
 clashes M B w l1 (l ∷ ls) acc = clashes M B w l1 ls (bitOr acc (clashWord M B w (bitXor l1 l)))
 
-pub clash-bit : (M : List ℕ) (B w i d : ℕ) → w < 4 → i < 64 → d < 256 → eqb (bit (clashWord M B w d) i) 1 ≡ marked M (bitXor (B * 256 + (w * 64 + i)) d)
+pub clash-bit : (M : List ℕ) (B w i d : ℕ) → w < 4 → i < 64 → d < 256
+    → eqb (bit (clashWord M B w d) i) 1 ≡ marked M (bitXor (B * 256 + (w * 64 + i)) d)
 unfolding clashWord marked
 clash-bit M B w i d hw hi hd =
     ap (λ (z : ℕ). eqb z 1) (perm-bit (getD M (B * 4 + bitXor w (d / 64)) 0) (d % 64) i low hi)
     ∙ sym (ap (λ (z : ℕ). eqb (bit (getD M (z / 64) 0) (z % 64)) 1) (xor-in-block B w i d hw hi hd)
-    ∙ ap₂ (λ (x y : ℕ). eqb (bit (getD M x 0) y) 1) (quot (bitXor w (d / 64)) (bitXor i (d % 64)) i-lt) (rem (bitXor w (d / 64)) (bitXor i (d % 64)) i-lt))
+    ∙ ap₂ (λ (x y : ℕ). eqb (bit (getD M x 0) y) 1) (quot (bitXor w (d / 64)) (bitXor i (d % 64)) i-lt)
+    (rem (bitXor w (d / 64)) (bitXor i (d % 64)) i-lt))
   where
     low : d % 64 < 64
     low = omega arith
@@ -135,7 +141,8 @@ clashes-is M B w i l1 [] acc hw hi h1 small = sym (or-false _)
 clashes-is M B w i l1 (l ∷ ls) acc hw hi h1 small =
     clashes-is M B w i l1 ls (bitOr acc (clashWord M B w (bitXor l1 l))) hw hi h1 (λ k m. small k (there m))
     ∙ ap (λ (c : Bool). c || rest) (bit-or-test acc (clashWord M B w (bitXor l1 l)) i ∙ ap (λ (c : Bool). eqb (bit acc i) 1 || c)
-    (clash-bit M B w i (bitXor l1 l) hw hi (xor-lt 8 l1 l h1 (small l (here refl))) ∙ ap (marked M) (sym (xor-assoc (B * 256 + (w * 64 + i)) l1 l))))
+    (clash-bit M B w i (bitXor l1 l) hw hi (xor-lt 8 l1 l h1 (small l (here refl))) ∙ ap (marked M)
+    (sym (xor-assoc (B * 256 + (w * 64 + i)) l1 l))))
     ∙ or-assoc (eqb (bit acc i) 1) (marked M (bitXor (bitXor (B * 256 + (w * 64 + i)) l1) l)) rest
   where
     rest : Bool

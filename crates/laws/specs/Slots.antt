@@ -2,7 +2,8 @@
 use mathlib.Core.Path.{_≡_, refl, sym, ap, _∙_, subst}
 use mathlib.Core.Logic.{_⊎_, inl, inr}
 use mathlib.Core.Bool.{Bool, true, false, cond}
-use mathlib.Core.List.{List, [], _∷_, _++_, List·Memᴰ as Mem, List·Memᴰ·head as here, List·Memᴰ·tail as there, List·Memᴰ·cases-cons as cases-cons, List·Memᴰ·not-nil as not-nil, Memᴰ·cast as mem-cast}
+use mathlib.Core.List.{List, [], _∷_, _++_, List·Memᴰ as Mem, List·Memᴰ·head as here, List·Memᴰ·tail as there}
+use mathlib.Core.List.{List·Memᴰ·cases-cons as cases-cons, List·Memᴰ·not-nil as not-nil, Memᴰ·cast as mem-cast}
 use Prim.Native.Nat.{ℕ, _/_, _≤_, _<_}
 use native.Mathlib.Omega.{arith}
 use lib.Bits.{bitXor}
@@ -15,14 +16,16 @@ use Rattle.laws.specs.Placed.{Good, taken-mem, alone}
 
 module _ (L : List ℕ → List ℕ) (W : List ℕ → ℕ → ℕ) where
   -- the word at a node's slot
-  pub hit : {x : Put} {xs : List Put} (b : ℕ) → Good L xs → Mem x xs → Mem b (L (x .node)) → slotWord L W xs (bitXor (x .base) b) ≡ W (x .node ++ (b ∷ [])) b
+  pub hit : {x : Put} {xs : List Put} (b : ℕ) → Good L xs → Mem x xs → Mem b (L (x .node))
+      → slotWord L W xs (bitXor (x .base) b) ≡ W (x .node ++ (b ∷ [])) b
   unfolding slotWord
   hit {x} b g (here {x = y} {xs = xs} e) k =
       subst (λ (z : Put). Mem b (L (z .node)) → slotWord L W (y ∷ xs) (bitXor (z .base) b) ≡ W (z .node ++ (b ∷ [])) b) (sym e) first-one k
     where
       first-one : Mem b (L (y .node)) → slotWord L W (y ∷ xs) (bitXor (y .base) b) ≡ W (y .node ++ (b ∷ [])) b
       first-one m =
-          ap (λ (l : ℕ). cond (byteIn (L (y .node)) l) (W (y .node ++ (l ∷ [])) l) (slotWord L W xs (bitXor (y .base) b))) (xor-cancel (y .base) b)
+          ap (λ (l : ℕ). cond (byteIn (L (y .node)) l) (W (y .node ++ (l ∷ [])) l) (slotWord L W xs (bitXor (y .base) b)))
+          (xor-cancel (y .base) b)
           ∙ ap (λ (c : Bool). cond c (W (y .node ++ (b ∷ [])) b) (slotWord L W xs (bitXor (y .base) b))) (mem-in m)
   hit {x} b g (there {x = y} {xs = xs} m) k =
       ap (λ (c : Bool). cond c (W (y .node ++ (l ∷ [])) l) (slotWord L W xs i)) other ∙ hit b (g .3) m k
@@ -73,7 +76,8 @@ module _ (L : List ℕ → List ℕ) (W : List ℕ → ℕ → ℕ) where
       })
 
   -- an owner by the byte of the walk is the node of the walk
-  pub ours : {x : Put} {xs : List Put} (b : ℕ) → Good L xs → Mem x xs → (o : Owner xs (bitXor (x .base) b)) → o .lab ≡ b → Mem b (L (x .node))
+  pub ours : {x : Put} {xs : List Put} (b : ℕ) → Good L xs → Mem x xs → (o : Owner xs (bitXor (x .base) b)) → o .lab ≡ b
+      → Mem b (L (x .node))
   ours {x} {xs} b g m o e =
       let same-base : o .own .base ≡ x .base = xor-cancel-r (o .own .base) (x .base) b (ap (bitXor (o .own .base)) (sym e) ∙ o .at) in
       let p : o .own ≡ x = alone L xs g (o .mem) m same-base in

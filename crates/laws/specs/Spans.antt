@@ -2,7 +2,8 @@
 use mathlib.Core.Path.{_≡_, refl, sym, ap, ap₂, _∙_}
 use mathlib.Core.Logic.{_⊎_, inl, inr}
 use mathlib.Core.Bool.{Bool, true, false, _&&_, cond}
-use mathlib.Core.List.{List, [], _∷_, _++_, append-assoc, List·Memᴰ as Mem, List·Memᴰ·head as here, List·Memᴰ·tail as there, List·Memᴰ·cases-cons as cases-cons}
+use mathlib.Core.List.{List, [], _∷_, _++_, append-assoc, List·Memᴰ as Mem, List·Memᴰ·head as here, List·Memᴰ·tail as there}
+use mathlib.Core.List.{List·Memᴰ·cases-cons as cases-cons}
 use Prim.Native.Nat.{ℕ, suc, _+_, _-_, _≤_, _<_}
 use native.Mathlib.Numerals.{add-one}
 use native.Mathlib.Omega.{arith}
@@ -66,7 +67,9 @@ spanned (t ∷ ts) low rise r i = go (either (ltb (t .id) i)) (either (eqb (t .i
         let b : bytesOf (t ∷ ts) i ≡ bytesOf ts i = unfold bytesOf in rw (ne-eqb (t .id) i (λ z. omega arith)) in
         record {
           rest = s .rest;
-          from = ap₂ (λ (n : ℕ) (l : List ℕ). drop n l) (before-below ts i t h) blob ∙ drop-append-add (t .bytes) (blobBytes ts ++ r) (lengthBefore ts i) ∙ s .from ∙ ap (λ (z : List ℕ). z ++ s .rest) (sym b);
+          from =
+              ap₂ (λ (n : ℕ) (l : List ℕ). drop n l) (before-below ts i t h) blob
+              ∙ drop-append-add (t .bytes) (blobBytes ts ++ r) (lengthBefore ts i) ∙ s .from ∙ ap (λ (z : List ℕ). z ++ s .rest) (sym b);
           next =
               let x = before-below ts i t h in
               let y = before-below ts (suc i) t (omega arith) in
@@ -90,7 +93,8 @@ spanned (t ∷ ts) low rise r i = go (either (ltb (t .id) i)) (either (eqb (t .i
         let above : i < t .id = omega (arith, ne) in
         let b : bytesOf (t ∷ ts) i ≡ [] = absent-bytes (t ∷ ts) i (other above) in
         let x : lengthBefore (t ∷ ts) i ≡ 0 = before-above ts i t (omega arith) ∙ before-first ts (t .id) i (rise .1) (omega arith) in
-        let y : lengthBefore (t ∷ ts) (suc i) ≡ 0 = before-above ts (suc i) t (omega arith) ∙ before-first ts (t .id) (suc i) (rise .1) (omega arith) in
+        let y : lengthBefore (t ∷ ts) (suc i) ≡ 0 =
+        before-above ts (suc i) t (omega arith) ∙ before-first ts (t .id) (suc i) (rise .1) (omega arith) in
         record {
           rest = blobBytes (t ∷ ts) ++ r;
           from = ap (λ (n : ℕ). drop n (blobBytes (t ∷ ts) ++ r)) x ∙ ap (λ (k : List ℕ). k ++ (blobBytes (t ∷ ts) ++ r)) (sym b);
@@ -110,7 +114,8 @@ before-all [] i h = unfold lengthBefore blobBytes in refl
 before-all (t ∷ ts) i h =
     let a = before-below ts i t (h t (here refl)) in
     let b = before-all ts i (λ u m. h u (there m)) in
-    let c : length (blobBytes (t ∷ ts)) ≡ length (t .bytes) + length (blobBytes ts) = unfold blobBytes each in length-append (t .bytes) (blobBytes ts) in
+    let c : length (blobBytes (t ∷ ts)) ≡ length (t .bytes) + length (blobBytes ts) = unfold blobBytes each in
+    length-append (t .bytes) (blobBytes ts) in
     omega arith
 
 pub before-le : (ts : List Token) (i : ℕ) → lengthBefore ts i ≤ length (blobBytes ts)
@@ -183,7 +188,8 @@ looking m ts L i = go (either (ltb i 65536))
         let r = L .blob-room in
         let d : E - A ≡ length (bytesOf ts i) = omega arith in
         ap (λ (c : Bool). cond c (take (E - A) (drop A (m .blob))) [])
-        (ap₂ _&&_ e (ap₂ _&&_ (le-leb A E (omega arith)) (ap₂ _&&_ (le-leb E (length (m .blob)) (omega arith)) (le-leb (E - A) 255 (omega arith)))))
+        (ap₂ _&&_ e (ap₂ _&&_ (le-leb A E (omega arith))
+        (ap₂ _&&_ (le-leb E (length (m .blob)) (omega arith)) (le-leb (E - A) 255 (omega arith)))))
         ∙ ap₂ (λ (k j : ℕ). take k (drop j (m .blob))) d a
         ∙ ap (λ (k : List ℕ). take (length (bytesOf ts i)) (drop (lengthBefore ts i) k)) (L .blob)
         ∙ ap (take (length (bytesOf ts i))) (s .from)

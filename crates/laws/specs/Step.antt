@@ -2,12 +2,13 @@
 use mathlib.Core.Path.{_≡_, refl, sym, ap, ap₂, _∙_, subst}
 use mathlib.Core.Logic.{_⊎_, inl, inr}
 use mathlib.Core.Bool.{Bool, true, false, not, _&&_, cond, and-false}
-use mathlib.Core.List.{List, [], _∷_, _++_, append-nil, append-assoc, List·Memᴰ as Mem, List·Memᴰ·head as here, List·Memᴰ·tail as there, List·Memᴰ·cases-cons as cases-cons, List·Memᴰ·not-nil as not-nil}
-use Prim.Native.Nat.{ℕ, _+_, _/_, _%_, _≤_, _<_}
+use mathlib.Core.List.{List, [], _∷_, _++_, append-nil, List·Memᴰ as Mem, List·Memᴰ·head as here, List·Memᴰ·tail as there}
+use mathlib.Core.List.{List·Memᴰ·cases-cons as cases-cons, List·Memᴰ·not-nil as not-nil}
+use Prim.Native.Nat.{ℕ, _/_, _%_, _≤_, _<_}
 use native.Mathlib.Omega.{arith}
 use lib.Bits.{bitXor}
 use lib.Dec.{eqb}
-use lib.ListN.{length, length-append}
+use lib.ListN.{length}
 use borrow.Author.Tests.{eq-eqb, ne-eqb}
 use Rattle.spec.specs.Lists.{fold, same, has}
 use Rattle.spec.specs.Token.{Token, idOf}
@@ -17,7 +18,7 @@ use Rattle.spec.specs.Valid.{Valid}
 use Rattle.spec.specs.Match.{baseIn, idIn, goes}
 use Rattle.laws.specs.Tests.{clash, Tested, either, same-eq, same-refl, has-mem, mem-has, mem-pos}
 use Rattle.laws.specs.Tokens.{id-pos, id-low, id-bound}
-use Rattle.laws.specs.Nodes.{IsNode, node-is, is-node, label-node, node-label, labels-small, order-mem, order-find}
+use Rattle.laws.specs.Nodes.{IsNode, node-is, token-node, label-node, node-label, labels-small, order-mem, order-find}
 use Rattle.laws.specs.Placed.{Good, place-good}
 use Rattle.laws.specs.Slots.{hit, Owner, owner, ours, block-zero}
 
@@ -28,12 +29,14 @@ unfolding fold put
 put-keeps L [] xs m = m
 put-keeps L (p ∷ ps) xs m = put-keeps L ps (put L xs p) (there m)
 
-put-has : (L : List ℕ → List ℕ) (xs : List Put) {p : List ℕ} {ps : List (List ℕ)} → Mem p ps → (x : Put) × Mem x (fold (put L) xs ps) × (x .node ≡ p)
+put-has : (L : List ℕ → List ℕ) (xs : List Put) {p : List ℕ} {ps : List (List ℕ)} → Mem p ps
+    → (x : Put) × Mem x (fold (put L) xs ps) × (x .node ≡ p)
 unfolding fold put
 put-has L xs (here {x = q} {xs = ps} e) = (_, put-keeps L ps (put L xs q) (here refl), sym e)
 put-has L xs (there {x = q} {xs = ps} m) = put-has L (put L xs q) m
 
-pub put-find : (L : List ℕ → List ℕ) (ps : List (List ℕ)) (xs : List Put) {x : Put} → Mem x (fold (put L) xs ps) → Mem x xs ⊎ Mem (x .node) ps
+pub put-find : (L : List ℕ → List ℕ) (ps : List (List ℕ)) (xs : List Put) {x : Put} → Mem x (fold (put L) xs ps)
+    → Mem x xs ⊎ Mem (x .node) ps
 unfolding fold put
 put-find L [] xs m = inl m
 put-find L (p ∷ ps) xs {x} m = go (put-find L ps (put L xs p) m)
@@ -64,8 +67,22 @@ base-cases (y ∷ xs) p = go (same p (y .node)) refl (base-cases xs p)
   where
     go : (c : Bool) → same p (y .node) ≡ c → Holds xs p ⊎ Unheld xs p
         → Holds (y ∷ xs) p ⊎ Unheld (y ∷ xs) p
-    go true e r = inl (record { put = y; mem = here refl; node-eq = sym (same-eq p (y .node) e); base-eq = ap (λ (c : Bool). cond c (y .base) (baseOf xs p)) e })
-    go false e (inl h) = inl (record { put = h .put; mem = there (h .mem); node-eq = h .node-eq; base-eq = ap (λ (c : Bool). cond c (y .base) (baseOf xs p)) e ∙ h .base-eq })
+    go true e r =
+        inl (record {
+          put = y;
+          mem = here refl;
+          node-eq = sym (same-eq p (y .node) e);
+          base-eq = ap
+              (λ (c : Bool). cond c (y .base) (baseOf xs p)) e;
+        })
+    go false e (inl h) =
+        inl (record {
+          put = h .put;
+          mem = there (h .mem);
+          node-eq = h .node-eq;
+          base-eq = ap
+              (λ (c : Bool). cond c (y .base) (baseOf xs p)) e ∙ h .base-eq;
+        })
     go false e (inr h) = inr (ap (λ (c : Bool). cond c (y .base) (baseOf xs p)) e ∙ h .0, other)
       where
         other : (x : Put) → Mem x (y ∷ xs) → x .node ≡ p → ⊥
@@ -138,9 +155,8 @@ module _ (ts : List Token) (v : Valid ts) where
       go : (r : List ℕ) → n .tok .bytes ≡ p ++ r → 1 ≤ wordOf ts p l
       go [] e = let k = id-pos p (id-low ts v) (n .mem) (e ∙ append-nil p) in omega arith
       go (c ∷ r) e =
-          let len : length (p ++ (c ∷ [])) ≡ length p + 1 = length-append p (c ∷ []) in
           let two = n .cut .two in
-          let child : Mem (p ++ (c ∷ [])) (nodes ts) = is-node ts (record { tok = n .tok; mem = n .mem; cut = record { rest = r; split = e ∙ sym (append-assoc p (c ∷ []) r); two = omega arith } }) in
+          let child = token-node ts p c r (n .mem) e (omega arith) in
           let k = base-pos p (placed p m (mem-pos (node-label (nodes ts) p c child))) in
           omega arith
 
@@ -176,14 +192,21 @@ module _ (ts : List Token) (v : Valid ts) where
         T : ℕ → ℕ
         T = slotWord L (wordOf ts) (puts ts)
 
-        held : (h : Holds (puts ts) p) → (T (bitXor (h .put .base) b) ≡ 0) ⊎ Owner L (wordOf ts) (puts ts) (bitXor (h .put .base) b) → (T (bitXor (h .put .base) b) ≡ 0) ⊎ (T (bitXor (h .put .base) b) % 256 ≡ b → ⊥)
+        held : (h : Holds (puts ts) p) → (T (bitXor (h .put .base) b) ≡ 0) ⊎ Owner L (wordOf ts) (puts ts) (bitXor (h .put .base) b)
+            → (T (bitXor (h .put .base) b) ≡ 0) ⊎ (T (bitXor (h .put .base) b) % 256 ≡ b → ⊥)
         held h (inl z) = inl z
         held h (inr o) = inr (λ e.
-            let same-lab : o .lab ≡ b = sym (word-low (o .own .node ++ (o .lab ∷ [])) (o .lab) (labels-small ts v (o .own .node) (o .lab) (o .child))) ∙ ap (λ (z : ℕ). z % 256) (sym (o .is)) ∙ e in
-            none-there (label-node (nodes ts) p b (subst (λ (z : List ℕ). Mem b (L z)) (h .node-eq) (ours L (wordOf ts) b good (h .mem) o same-lab))))
+            let same-lab : o .lab ≡ b =
+            sym (word-low (o .own .node ++ (o .lab ∷ [])) (o .lab) (labels-small ts v (o .own .node) (o .lab) (o .child)))
+            ∙ ap (λ (z : ℕ). z % 256) (sym (o .is)) ∙ e in
+            none-there (label-node (nodes ts) p b
+            (subst (λ (z : List ℕ). Mem b (L z)) (h .node-eq) (ours L (wordOf ts) b good (h .mem) o same-lab))))
 
-        go : Holds (puts ts) p ⊎ Unheld (puts ts) p → (T (bitXor (baseOf (puts ts) p) b) ≡ 0) ⊎ (T (bitXor (baseOf (puts ts) p) b) % 256 ≡ b → ⊥)
-        go (inl h) = subst (λ (z : ℕ). (T (bitXor z b) ≡ 0) ⊎ (T (bitXor z b) % 256 ≡ b → ⊥)) (sym (h .base-eq)) (held h (owner L (wordOf ts) (puts ts) (bitXor (h .put .base) b)))
+        go : Holds (puts ts) p ⊎ Unheld (puts ts) p
+            → (T (bitXor (baseOf (puts ts) p) b) ≡ 0) ⊎ (T (bitXor (baseOf (puts ts) p) b) % 256 ≡ b → ⊥)
+        go (inl h) =
+            subst (λ (z : ℕ). (T (bitXor z b) ≡ 0) ⊎ (T (bitXor z b) % 256 ≡ b → ⊥)) (sym (h .base-eq))
+            (held h (owner L (wordOf ts) (puts ts) (bitXor (h .put .base) b)))
         go (inr h) = inl (ap (λ (z : ℕ). T (bitXor z b)) (h .0) ∙ block-zero L (wordOf ts) (puts ts) (labels-small ts v) good b hb)
 
     pub step-goes : goes (tableAt ts (bitXor (baseOf (puts ts) p) b)) b ≡ has (nodes ts) (p ++ (b ∷ []))
@@ -193,5 +216,6 @@ module _ (ts : List Token) (v : Valid ts) where
         go (inl e) =
             let k = has-mem (nodes ts) (p ++ (b ∷ [])) e in
             let w = step-word k in
-            goes-yes _ b (subst (λ (z : ℕ). 1 ≤ z) (sym w) (word-pos (p ++ (b ∷ [])) b k)) (ap (λ (z : ℕ). z % 256) w ∙ word-low (p ++ (b ∷ [])) b hb) ∙ sym e
+            goes-yes _ b (subst (λ (z : ℕ). 1 ≤ z) (sym w) (word-pos (p ++ (b ∷ [])) b k))
+            (ap (λ (z : ℕ). z % 256) w ∙ word-low (p ++ (b ∷ [])) b hb) ∙ sym e
         go (inr e) = step-none (λ k. clash (mem-has k) e) ∙ sym e

@@ -2,7 +2,9 @@
 use mathlib.Core.Path.{_≡_, refl, sym, ap, ap₂, _∙_, subst}
 use mathlib.Core.Logic.{_⊎_, inl, inr}
 use mathlib.Core.Bool.{Bool, true, false, _&&_, _||_, cond, true≢false, false≢true, or-assoc}
-use mathlib.Core.List.{List, [], _∷_, _++_, List·Memᴰ as Mem, List·Memᴰ·head as here, List·Memᴰ·tail as there, List·Memᴰ·cases-cons as cases-cons, List·Memᴰ·not-nil as not-nil, List·Memᴰ·append-cases as append-cases, Memᴰ·append-left as mem-left, Memᴰ·append-right as mem-right, Memᴰ·cast as mem-cast}
+use mathlib.Core.List.{List, [], _∷_, _++_, List·Memᴰ as Mem, List·Memᴰ·head as here, List·Memᴰ·tail as there}
+use mathlib.Core.List.{List·Memᴰ·cases-cons as cases-cons, List·Memᴰ·not-nil as not-nil, List·Memᴰ·append-cases as append-cases}
+use mathlib.Core.List.{Memᴰ·append-left as mem-left, Memᴰ·append-right as mem-right, Memᴰ·cast as mem-cast}
 use Prim.Native.Nat.{ℕ, _≤_}
 use native.Mathlib.Omega.{arith}
 use lib.Dec.{eqb}
@@ -101,7 +103,8 @@ unfolding same
 same-eq [] [] e = refl
 same-eq [] (y ∷ q) e = absurd (false≢true e)
 same-eq (x ∷ p) [] e = absurd (false≢true e)
-same-eq (x ∷ p) (y ∷ q) e = ap₂ (λ (a : ℕ) (l : List ℕ). a ∷ l) (eqb-true x y (and-l (eqb x y) (same p q) e)) (same-eq p q (and-r (eqb x y) (same p q) e))
+same-eq (x ∷ p) (y ∷ q) e =
+    ap₂ (λ (a : ℕ) (l : List ℕ). a ∷ l) (eqb-true x y (and-l (eqb x y) (same p q) e)) (same-eq p q (and-r (eqb x y) (same p q) e))
 
 pub same-refl : (p : List ℕ) → same p p ≡ true
 unfolding same
@@ -152,7 +155,8 @@ module _ {A : Type 0} (f : A → Bool) where
   keep-find [] m = absurd (not-nil m)
   keep-find (z ∷ l) {x} m = go (f z) refl m (keep-find l)
     where
-      go : (c : Bool) → f z ≡ c → Mem x (cond c (z ∷ keep f l) (keep f l)) → (Mem x (keep f l) → Mem x l × (f x ≡ true)) → Mem x (z ∷ l) × (f x ≡ true)
+      go : (c : Bool) → f z ≡ c → Mem x (cond c (z ∷ keep f l) (keep f l)) → (Mem x (keep f l) → Mem x l × (f x ≡ true))
+          → Mem x (z ∷ l) × (f x ≡ true)
       go true p n r = at (cases-cons n)
         where
           at : (x ≡ z) ⊎ Mem x (keep f l) → Mem x (z ∷ l) × (f x ≡ true)

@@ -39,7 +39,8 @@ module _ (table : List ℕ) (b : ℕ) (s : List ℕ) (k : Walk) where
   unfolding follow
   follow-leaf e z = rw (e, follow) (rw z)
 
-  pub follow-on : goes wordAt b ≡ true → eqb (baseIn wordAt) 0 ≡ false → follow table (b ∷ s) k ≡ follow table s (onto k wordAt (suc (k .used)))
+  pub follow-on : goes wordAt b ≡ true → eqb (baseIn wordAt) 0 ≡ false
+      → follow table (b ∷ s) k ≡ follow table s (onto k wordAt (suc (k .used)))
   unfolding follow
   follow-on e z = rw (e, follow) (rw z)
 
@@ -55,11 +56,16 @@ pub cut-length : {q s : List ℕ} → Cut q s → length q ≤ length s
 cut-length {q} c = omega (arith, simp length-append at (ap length (c .split)))
 
 cut-append : {q s : List ℕ} (r : List ℕ) → Cut q s → Cut q (s ++ r)
-cut-append {q} r c = record { rest = c .rest ++ r; split = ap (λ (z : List ℕ). z ++ r) (c .split) ∙ append-assoc q (c .rest) r; two = c .two }
+cut-append {q} r c =
+    record { rest = c .rest ++ r; split = ap (λ (z : List ℕ). z ++ r) (c .split) ∙ append-assoc q (c .rest) r; two = c .two }
 
 -- what begins p ++ r and is no longer than p begins p
 cut-within : {q : List ℕ} (p r : List ℕ) → Cut q (p ++ r) → length q ≤ length p → Cut q p
-cut-within {q} p r c h = record { rest = drop (length q) p; split = sym (take-append-drop (length q) p) ∙ ap (λ (z : List ℕ). z ++ drop (length q) p) same-start; two = c .two }
+cut-within {q} p r c h = record {
+  rest = drop (length q) p;
+  split = sym (take-append-drop (length q) p) ∙ ap (λ (z : List ℕ). z ++ drop (length q) p) same-start;
+  two = c .two;
+}
   where
     same-start : take (length q) p ≡ q
     same-start = sym (take-append-le (length q) p r h) ∙ ap (take (length q)) (c .split) ∙ take-at q (c .rest) (length q) refl
@@ -69,7 +75,11 @@ pub cut-all : {q s : List ℕ} → Cut q s → length s ≤ length q → q ≡ s
 cut-all {q} {s} c h = sym (sym (take-all (length q) s h) ∙ ap (take (length q)) (c .split) ∙ take-at q (c .rest) (length q) refl)
 
 pub passed-start : (ts : List Token) (a : ℕ) → Passed ts (a ∷ []) 0 0
-passed-start ts a = record { none = λ e. refl; token = λ h. absurd (omega arith); longest = λ t m c. absurd (let k = cut-length c in let l = c .two in omega arith) }
+passed-start ts a = record {
+  none = λ e. refl;
+  token = λ h. absurd (omega arith);
+  longest = λ t m c. absurd (omega (arith, cut-length c, c .two));
+}
 
 -- longer strings, where no token reaches beyond
 pub passed-more : {ts : List Token} (p r : List ℕ) {i n : ℕ} → Passed ts p i n
@@ -107,7 +117,19 @@ module _ {ts : List Token} (v : Valid ts) where
       go false e (inl z) = absurd (clash (eq-eqb (idOf ts q) 0 z) e)
       go false e (inr (t, m, d, j)) = record {
         none = λ z. absurd (clash (eq-eqb (idOf ts q) 0 z) e);
-        token = λ l. (t, m, record { rest = []; split = sym d ∙ sym (append-nil (t .bytes)); two = (let x = ap length d in omega (arith, len)) }, sym j, ap length d ∙ len);
+        token =
+            λ l. (
+              t,
+              m,
+              record {
+                rest = [];
+                split = sym d ∙ sym (append-nil (t .bytes));
+                two =
+                    (let x = ap length d in omega (arith, len));
+              },
+              sym j,
+              ap length d ∙ len,
+            );
         longest = λ u n c. omega (arith, cut-length c, len);
       }
 
@@ -132,7 +154,8 @@ module _ {ts : List Token} (v : Valid ts) where
   onto-stands : (p : List ℕ) (b : ℕ) (k : Walk) (l : ℕ) → l < 256 → 1 ≤ length p → Passed ts p (k .id) (k .len)
       → Stands ts (p ++ (b ∷ [])) (onto k (wordOf ts (p ++ (b ∷ [])) l) (suc (length p)))
   unfolding onto
-  onto-stands p b k l hl h w = rw (word-id ts v q l hl, word-base ts v q l hl) (go (eqb (idOf ts q) 0) (passed-next v p b h w (eqb (idOf ts q) 0) refl))
+  onto-stands p b k l hl h w =
+      rw (word-id ts v q l hl, word-base ts v q l hl) (go (eqb (idOf ts q) 0) (passed-next v p b h w (eqb (idOf ts q) 0) refl))
     where
       q : List ℕ
       q = p ++ (b ∷ [])
@@ -140,11 +163,12 @@ module _ {ts : List Token} (v : Valid ts) where
       len : suc (length p) ≡ length q
       len = sym (length-append p (b ∷ []) ∙ add-one (length p))
 
-      B : ℕ
-      B = baseOf (puts ts) q
+      -- the walk at q, with id and length of what it passed
+      at : ℕ → ℕ → Walk
+      at i n = record { id = i; len = n; used = suc (length p); base = baseOf (puts ts) q }
 
       go : (c : Bool) → Passed ts q (cond c (k .id) (idOf ts q)) (cond c (k .len) (suc (length p)))
-          → Stands ts q (cond c (record { id = k .id; len = k .len; used = suc (length p); base = B }) (record { id = idOf ts q; len = suc (length p); used = suc (length p); base = B }))
+          → Stands ts q (cond c (at (k .id) (k .len)) (at (idOf ts q) (suc (length p))))
       go true r = record { used-eq = len; base-eq = refl; passed = r }
       go false r = record { used-eq = len; base-eq = refl; passed = r }
 
@@ -158,7 +182,8 @@ module _ {ts : List Token} (v : Valid ts) where
   module _ (table : List ℕ) (read : (i : ℕ) → getD table i 0 ≡ tableAt ts i) where
     pub follow-reaches : (s p : List ℕ) (k : Walk) → Bytes s → Mem p (nodes ts) → Stands ts p k → Reached ts (p ++ s) (follow table s k)
     unfolding follow
-    follow-reaches [] p k small m w = record { node = p; rest = []; mem = m; split = refl; stands = w; stops = λ b r e. absurd (nil≢cons e) }
+    follow-reaches [] p k small m w =
+        record { node = p; rest = []; mem = m; split = refl; stands = w; stops = λ b r e. absurd (nil≢cons e) }
     follow-reaches (b ∷ s) p k small m w = go (has (nodes ts) q) refl (follow-reaches s q)
       where
         q : List ℕ
@@ -173,7 +198,8 @@ module _ {ts : List Token} (v : Valid ts) where
         goes-eq : goes (getD table (bitXor (k .base) b) 0) b ≡ has (nodes ts) q
         goes-eq = ap (λ (z : ℕ). goes z b) at ∙ step-goes ts v p m b hb
 
-        go : (c : Bool) → has (nodes ts) q ≡ c → ((k : Walk) → Bytes s → Mem q (nodes ts) → Stands ts q k → Reached ts (q ++ s) (follow table s k))
+        go : (c : Bool) → has (nodes ts) q ≡ c
+            → ((k : Walk) → Bytes s → Mem q (nodes ts) → Stands ts q k → Reached ts (q ++ s) (follow table s k))
             → Reached ts (p ++ (b ∷ s)) (follow table (b ∷ s) k)
         go false e ih = rw (follow-stops table b s k (goes-eq ∙ e)) (record {
           node = p;
@@ -209,12 +235,15 @@ module _ {ts : List Token} (v : Valid ts) where
               stands = next;
               stops = λ d r i. leaf-stops q n (sym base ∙ eqb-true (baseIn x) 0 z) d;
             })
-            onward false z = rw (follow-on table b s k (goes-eq ∙ e) z, ← append-assoc p (b ∷ []) s) (ih (onto k x (suc (k .used))) (small .1) n next)
+            onward false z =
+                rw (follow-on table b s k (goes-eq ∙ e) z, ← append-assoc p (b ∷ []) s) (ih (onto k x (suc (k .used))) (small .1) n next)
 
     -- from the root word of a node
-    enter-reaches : (a b : ℕ) (s : List ℕ) → Bytes s → Mem (a ∷ b ∷ []) (nodes ts) → Reached ts (a ∷ b ∷ s) (enter table (wordOf ts (a ∷ b ∷ []) 0) s)
+    enter-reaches : (a b : ℕ) (s : List ℕ) → Bytes s → Mem (a ∷ b ∷ []) (nodes ts)
+        → Reached ts (a ∷ b ∷ s) (enter table (wordOf ts (a ∷ b ∷ []) 0) s)
     unfolding enter
-    enter-reaches a b s small m = rw (ne-eqb w 0 (λ z. let h = word-pos ts v q 0 m in omega arith), enter) (go (not (eqb (idIn w) 0) && eqb (baseIn w) 0) refl)
+    enter-reaches a b s small m =
+        rw (ne-eqb w 0 (λ z. let h = word-pos ts v q 0 m in omega arith), enter) (go (not (eqb (idIn w) 0) && eqb (baseIn w) 0) refl)
       where
         q : List ℕ
         q = a ∷ b ∷ []
@@ -225,14 +254,17 @@ module _ {ts : List Token} (v : Valid ts) where
         begun : Stands ts q (onto noWalk w 2)
         begun = onto-stands (a ∷ []) b noWalk 0 (lit< tt) (lit< tt) (passed-start ts a)
 
-        go : (c : Bool) → (not (eqb (idIn w) 0) && eqb (baseIn w) 0) ≡ c → Reached ts (a ∷ b ∷ s) (elim c [ true ↦ onto noWalk w 2 | false ↦ follow table s (onto noWalk w 2) ])
+        go : (c : Bool) → (not (eqb (idIn w) 0) && eqb (baseIn w) 0) ≡ c
+            → Reached ts (a ∷ b ∷ s) (elim c [ true ↦ onto noWalk w 2 | false ↦ follow table s (onto noWalk w 2) ])
         go true e = record {
           node = q;
           rest = s;
           mem = m;
           split = refl;
           stands = begun;
-          stops = λ d r i. leaf-stops q m (sym (word-base ts v q 0 (lit< tt)) ∙ eqb-true (baseIn w) 0 (and-r (not (eqb (idIn w) 0)) (eqb (baseIn w) 0) e)) d;
+          stops =
+              λ d r i. leaf-stops q m
+              (sym (word-base ts v q 0 (lit< tt)) ∙ eqb-true (baseIn w) 0 (and-r (not (eqb (idIn w) 0)) (eqb (baseIn w) 0) e)) d;
         }
         go false e = follow-reaches s q (onto noWalk w 2) small m begun
 
@@ -264,4 +296,6 @@ walk-cases {m} {ts} L a b s small =
     go : (c : Bool) → has (nodes ts) (a ∷ b ∷ []) ≡ c → root ≡ cond c (wordOf ts (a ∷ b ∷ []) 0) 0
         → ((W root ≡ noWalk) × (Mem (a ∷ b ∷ []) (nodes ts) → ⊥)) ⊎ Reached ts (a ∷ b ∷ take 253 s) (W root)
     go false e w = inl (ap W w ∙ (unfold enter in refl), λ n. clash (mem-has n) e)
-    go true e w = inr (rw w (enter-reaches (L .valid) (m .table) (table-at L) a b (take 253 s) (bytes-take 253 s (small .1 .1)) (has-mem (nodes ts) (a ∷ b ∷ []) e)))
+    go true e w =
+        inr (rw w (enter-reaches (L .valid) (m .table) (table-at L) a b (take 253 s) (bytes-take 253 s (small .1 .1))
+        (has-mem (nodes ts) (a ∷ b ∷ []) e)))

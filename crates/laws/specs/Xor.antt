@@ -62,7 +62,8 @@ xor-assoc = bin-ind (λ (n : ℕ). (b c : ℕ) → bitXor (bitXor n b) c ≡ bit
     half : (n : ℕ) → n % 2 < 2
     half n = mod-lt n (zero-lt-suc 1)
 
-    step : (n : ℕ) → ((b c : ℕ) → bitXor (bitXor (n / 2) b) c ≡ bitXor (n / 2) (bitXor b c)) → (b c : ℕ) → bitXor (bitXor n b) c ≡ bitXor n (bitXor b c)
+    step : (n : ℕ) → ((b c : ℕ) → bitXor (bitXor (n / 2) b) c ≡ bitXor (n / 2) (bitXor b c)) → (b c : ℕ)
+        → bitXor (bitXor n b) c ≡ bitXor n (bitXor b c)
     step n ih b c =
         xor-step (bitXor n b) c
         ∙ ap₂ (λ (x y : ℕ). bitXor x (c / 2) * 2 + differ y (c % 2)) (xor-shr n b 1) (xor-mod n b 1)
@@ -70,7 +71,8 @@ xor-assoc = bin-ind (λ (n : ℕ). (b c : ℕ) → bitXor (bitXor n b) c ≡ bit
         ∙ sym (xor-step n (bitXor b c) ∙ ap₂ (λ (x y : ℕ). bitXor (n / 2) x * 2 + differ (n % 2) y) (xor-shr b c 1) (xor-mod b c 1))
 
 -- the slot of word w and bit i, moved by d, stands in word w xor d / 64 at bit i xor d % 64
-pub xor-in-block : (B w i d : ℕ) → w < 4 → i < 64 → d < 256 → bitXor (B * 256 + (w * 64 + i)) d ≡ B * 256 + (bitXor w (d / 64) * 64 + bitXor i (d % 64))
+pub xor-in-block : (B w i d : ℕ) → w < 4 → i < 64 → d < 256
+    → bitXor (B * 256 + (w * 64 + i)) d ≡ B * 256 + (bitXor w (d / 64) * 64 + bitXor i (d % 64))
 xor-in-block B w i d hw hi hd =
     ap₂ bitXor left right
     ∙ xor-block 6 (B * 4 + w) (d / 64) i (d % 64) hi low-lt
