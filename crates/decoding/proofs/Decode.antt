@@ -1,0 +1,284 @@
+-- The equations of decoding, a line for each way in which an id can go. Assumes nothing.
+use mathlib.Core.Path.{_≡_, refl, ap, sym, _∙_}
+use mathlib.Core.Bool.{Bool, true, false}
+use mathlib.Core.List.{List, [], _∷_, _++_, append-assoc, append-nil}
+use Prim.Native.Nat.{ℕ, zero, suc, _+_, _-_, _≤_, _<_, zero-le}
+use native.Mathlib.Omega.{arith}
+use native.Mathlib.Numerals.{add-one}
+use native.Mathlib.Nat.{not-suc-le-zero, sub-zero}
+use lib.Dec.{leb, ltb}
+use lib.ListN.{length, take, drop, getD, length-append, drop-of-length-le, take-append-drop}
+use lib.Seq.{take-suc, take-add, take-all, drop-cons}
+use borrow.Author.Count.{below-none, below-more}
+use borrow.Author.Tests.{le-ltb, le-leb, lt-leb, leb-true, leb-false}
+use Rattle.spec.specs.Lists.{each, over}
+use lib.IntN.{ℤ}
+use Rattle.spec.specs.Memory.{Memory, memory, tooShort}
+use Rattle.spec.specs.Encode.{refused}
+use Rattle.spec.specs.Decode.{
+  lookup,
+  Decoding,
+  DecodeEnd,
+  decodeAt,
+  decoding,
+  decoded,
+  complete,
+  absent,
+  full,
+  decodeAnswer,
+  decodeOutput,
+  decodeOn,
+}
+use Rattle.decoding.specs.declared.Decoded.{Decoded}
+use Rattle.decoding.specs.declared.Decoded.the-variants.{Whole, ShortMemory, Absent, Full}
+use Rattle.decoding.specs.Answers.{answerOf, takenOf, Answered}
+use Rattle.decoding.specs.Copy.{Placed}
+use Rattle.decoding.specs.Span.{Present, HasSpan, present}
+use Rattle.decoding.specs.Measured.{tokens, Joined, Measured}
+
+module _ (m : Memory) (n k i : ℕ) (ids : List ℕ) where
+  pub decode-absent : lookup m i ≡ [] → decodeAt m n k (i ∷ ids) ≡ record { bytes = []; end = absent k i }
+  unfolding decodeAt
+  decode-absent e = rw (e, decodeAt)
+
+  pub decode-full : (l : List ℕ) → lookup m i ≡ l → 1 ≤ length l → n < length l
+      → decodeAt m n k (i ∷ ids) ≡ record { bytes = []; end = full k }
+  unfolding decodeAt
+  decode-full [] e h f = absurd (not-suc-le-zero h)
+  decode-full (b ∷ bs) e h f = rw (e, decodeAt, lt-leb _ _ f)
+
+  pub decode-fits : (l : List ℕ) → lookup m i ≡ l → 1 ≤ length l → length l ≤ n
+      → decodeAt m n k (i ∷ ids) ≡ decoded l (decodeAt m (n - length l) (suc k) ids)
+  unfolding decodeAt
+  decode-fits [] e h f = absurd (not-suc-le-zero h)
+  decode-fits (b ∷ bs) e h f = rw (e, decodeAt, le-leb _ _ f)
+
+-- ---- the ids joined
+
+module _ (f : ℕ → List ℕ) where
+  each-append : (xs ys : List ℕ) → each f (xs ++ ys) ≡ each f xs ++ each f ys
+  unfolding each
+  each-append [] ys = refl
+  each-append (x ∷ xs) ys = ap (λ (r : List ℕ). f x ++ r) (each-append xs ys) ∙ sym (append-assoc (f x) (each f xs) (each f ys))
+
+  each-one : (x : ℕ) → each f (x ∷ []) ≡ f x
+  unfolding each
+  each-one x = append-nil (f x)
+
+  -- one id more
+  pub each-more : (ids : List ℕ) (k : ℕ) → k < length ids → each f (take (k + 1) ids) ≡ each f (take k ids) ++ f (getD ids k 0)
+  each-more ids k h =
+      rw (add-one, take-suc ids k 0 h) (each-append (take k ids) (getD ids k 0 ∷ []) ∙ ap (λ (r : List ℕ). each f (take k ids) ++ r) (each-one (getD ids k 0)))
+
+  -- fewer ids have no more bytes
+  pub each-fewer : (ids : List ℕ) (k n : ℕ) → k ≤ n → length (each f (take k ids)) ≤ length (each f (take n ids))
+  each-fewer ids k n h =
+      let e : n ≡ k + (n - k) = omega arith in
+      let t : each f (take n ids) ≡ each f (take k ids) ++ each f (take (n - k) (drop k ids)) =
+      ap (λ (j : ℕ). each f (take j ids)) e ∙ ap (each f) (take-add k (n - k) ids) ∙ each-append (take k ids) (take (n - k) (drop k ids)) in
+      omega (arith, simp length-append at (ap length t))
+
+pub joined-none : (m : Memory) (ids : List ℕ) → Joined m ids 0 0
+unfolding each
+joined-none m ids = record { within = zero-le; present = below-none _; count = refl }
+
+-- one id more
+pub joined-more : (m : Memory) (ids : List ℕ) (k n : ℕ) → Joined m ids k n → k < length ids → 1 ≤ length (lookup m (getD ids k 0))
+    → Joined m ids (k + 1) (n + length (lookup m (getD ids k 0)))
+joined-more m ids k n j h p = record {
+  within = omega arith;
+  present = below-more _ _ (j .present) p;
+  count = rw (each-more (lookup m) ids k h) (simp length-append (ap (λ (a : ℕ). a + length (lookup m (getD ids k 0))) (j .count)));
+}
+
+-- ---- the first pass
+
+-- the first k of the ids have been passed, with n bytes, and what decoding is to give follows from the others
+pub record Passed (m : Memory) (room : ℕ) (ids : List ℕ) (k n : ℕ) : Type 0 where
+  pub joined : Joined m ids k n
+  pub fits : n ≤ room
+  pub rest : decoding m room ids ≡ decoded (each (lookup m) (take k ids)) (decodeAt m (room - n) k (drop k ids))
+
+pub passed-none : (m : Memory) (room : ℕ) (ids : List ℕ) → Passed m room ids 0 0
+unfolding decoding each
+passed-none m room ids = record { joined = joined-none m ids; fits = zero-le; rest = rw sub-zero }
+
+module _ (m : Memory) (room : ℕ) (ids : List ℕ) (k n : ℕ) (p : Passed m room ids k n) where
+  -- the decoding ends here, and r is its answer
+  ends : (e : DecodeEnd) (r : Decoded) → decodeAt m (room - n) k (drop k ids) ≡ record { bytes = []; end = e }
+      → answerOf r ≡ decodeAnswer n e → answerOf r .count ≡ n → takenOf r (length ids) ≡ k → Measured m room ids r
+  ends e r here a c t =
+      let bytes = each (lookup m) (take k ids) in
+      let all : decoding m room ids ≡ record { bytes = bytes; end = e } =
+      p .rest ∙ ap (decoded bytes) here ∙ ap (λ (b : List ℕ). record { bytes = b; end = e }) (append-nil bytes) in
+      record {
+        answer = a ∙ ap (λ (j : ℕ). decodeAnswer j e) (p .joined .count) ∙ ap (λ (d : Decoding). decodeOutput d .answer) (sym all);
+        bytes = ap (λ (d : Decoding). d .bytes) all ∙ ap (λ (j : ℕ). each (lookup m) (take j ids)) (sym t);
+        joined = rw (t, c) (p .joined);
+        fits = rw c (p .fits);
+      }
+
+  -- at the end: all ids
+  pub ends-whole : length ids ≤ k → Measured m room ids (Whole n)
+  unfolding decodeAt
+  ends-whole h =
+      let t : length ids ≡ k = omega (arith, p .joined .within) in
+      ends complete (Whole n) (rw (drop-of-length-le ids h)) refl refl t
+
+  module _ (h : k < length ids) where
+    pub ends-absent : lookup m (getD ids k 0) ≡ [] → Measured m room ids (Absent n k (getD ids k 0))
+    ends-absent e =
+        ends (absent k (getD ids k 0)) (Absent n k (getD ids k 0))
+        (rw (drop-cons ids k 0 h) (decode-absent m (room - n) k (getD ids k 0) (drop (suc k) ids) e)) refl refl refl
+
+    module _ (some : 1 ≤ length (lookup m (getD ids k 0))) where
+      pub ends-full : room - n < length (lookup m (getD ids k 0)) → Measured m room ids (Full n k)
+      ends-full f =
+          ends (full k) (Full n k)
+          (rw (drop-cons ids k 0 h) (decode-full m (room - n) k (getD ids k 0) (drop (suc k) ids) (lookup m (getD ids k 0)) refl some f))
+          refl refl refl
+
+      pub passed-more : length (lookup m (getD ids k 0)) ≤ room - n → Passed m room ids (k + 1) (n + length (lookup m (getD ids k 0)))
+      passed-more f =
+          let t = lookup m (getD ids k 0) in
+          let left : room - n - length t ≡ room - (n + length t) = omega arith in
+          record {
+            joined = joined-more m ids k n (p .joined) h some;
+            fits = omega arith;
+            rest =
+                p .rest
+                ∙ ap (λ (l : List ℕ). decoded (each (lookup m) (take k ids)) (decodeAt m (room - n) k l)) (drop-cons ids k 0 h)
+                ∙ ap (decoded (each (lookup m) (take k ids))) (decode-fits m (room - n) k (getD ids k 0) (drop (suc k) ids) t refl some f)
+                ∙ rw (each-more (lookup m) ids k h, add-one, left, append-assoc);
+          }
+
+-- ---- the second pass
+
+-- the bytes of the first k ids stand in after, n in all, and the cells from total on are as before
+pub record Written (m : Memory) (ids : List ℕ) (k n total : ℕ) (before after : List ℕ) : Type 0 where
+  pub joined : Joined m ids k n
+  pub same : length after ≡ length before
+  pub bytes : take n after ≡ each (lookup m) (take k ids)
+  pub kept : drop total after ≡ drop total before
+
+module _ (offsets blob ids : List ℕ) (k n : ℕ) where
+  -- what a turn knows of the id at k, and that its bytes fit, since those of all ids do
+  pub record Turn (total : ℕ) : Type 0 where
+    pub here : k < length ids
+    pub paired : getD ids k 0 + 1 < length offsets
+    pub ordered : getD offsets (getD ids k 0) 0 ≤ getD offsets (getD ids k 0 + 1) 0
+    pub inside : getD offsets (getD ids k 0 + 1) 0 ≤ length blob
+    pub room : n + (getD offsets (getD ids k 0 + 1) 0 - getD offsets (getD ids k 0) 0) ≤ total
+    pub some : 1 ≤ length (lookup (tokens offsets blob) (getD ids k 0))
+    pub size : length (lookup (tokens offsets blob) (getD ids k 0)) ≡ getD offsets (getD ids k 0 + 1) 0 - getD offsets (getD ids k 0) 0
+    pub bytes :
+        lookup (tokens offsets blob) (getD ids k 0)
+        ≡ take (getD offsets (getD ids k 0 + 1) 0 - getD offsets (getD ids k 0) 0) (drop (getD offsets (getD ids k 0) 0) blob)
+
+  pub turn : (count total : ℕ) → Joined (tokens offsets blob) ids count total → Joined (tokens offsets blob) ids k n → k < count → Turn total
+  turn count total all j h =
+      let m = tokens offsets blob in
+      let some = all .present k h in
+      let p = present m (getD ids k 0) some in
+      let s = p .span in
+      let next = joined-more m ids k n j (omega (arith, all .within)) some in
+      let fewer = each-fewer (lookup m) ids (k + 1) count (omega arith) in
+      let gap : p .len ≡ getD offsets (getD ids k 0 + 1) 0 - getD offsets (getD ids k 0) 0 = omega (arith, s .first, s .last) in
+      record {
+        here = omega (arith, all .within);
+        paired = s .paired;
+        ordered = omega (arith, s .first, s .last);
+        inside = omega (arith, s .last, s .inside);
+        room = omega (arith, next .count, all .count, p .size);
+        some = some;
+        size = p .size ∙ gap;
+        bytes = rw (← gap, s .first) (p .bytes);
+      }
+
+pub written-none : (m : Memory) (ids : List ℕ) (total : ℕ) (before : List ℕ) → Written m ids 0 0 total before before
+unfolding each
+written-none m ids total before = record { joined = joined-none m ids; same = refl; bytes = refl; kept = refl }
+
+module _ (m : Memory) (ids : List ℕ) (k n total : ℕ) (before after : List ℕ) (w : Written m ids k n total before after) where
+  -- a token more
+  pub written-more : (now : List ℕ) → k < length ids → 1 ≤ length (lookup m (getD ids k 0)) → length now ≡ length after
+      → Placed after n (lookup m (getD ids k 0)) total now → Written m ids (k + 1) (n + length (lookup m (getD ids k 0))) total before now
+  written-more now h some len p = record {
+    joined = joined-more m ids k n (w .joined) h some;
+    same = len ∙ w .same;
+    bytes = p .written ∙ rw (each-more (lookup m) ids k h, w .bytes);
+    kept = p .kept ∙ w .kept;
+  }
+
+  -- all tokens
+  pub written-all : Joined m ids k total → after ≡ over (each (lookup m) (take k ids)) before
+  written-all all =
+      let e : n ≡ total = w .joined .count ∙ sym (all .count) in
+      sym (take-append-drop total after)
+      ∙ rw (w .kept, ← e) (ap (λ (l : List ℕ). l ++ drop n before) (w .bytes) ∙ rw (← w .joined .count))
+
+-- ---- both passes
+
+-- where `single` and offsets are long enough, number 1 is about the roots alone
+pub short-roots : (single : List ℤ) (offsets roots : List ℕ) → 256 ≤ length single → 65537 ≤ length offsets
+    → ltb (length roots) 65536 ≡ tooShort (memory single offsets [] roots [])
+unfolding tooShort
+short-roots single offsets roots hs ho = rw (le-ltb _ _ hs, le-ltb _ _ ho)
+
+-- number 1 does not look at the blob or the table, and decoding looks at nothing but the offsets and the blob
+module _ (single : List ℤ) (offsets blob roots table : List ℕ) where
+  pub short-same : tooShort (memory single offsets blob roots table) ≡ tooShort (memory single offsets [] roots [])
+  unfolding tooShort
+  short-same = refl
+
+  pub lookup-same : (i : ℕ) → lookup (memory single offsets blob roots table) i ≡ lookup (tokens offsets blob) i
+  unfolding lookup
+  lookup-same i = refl
+
+  -- one id, given the same of those after it
+  same-step : (n k i : ℕ) (ids : List ℕ)
+      → ((n k : ℕ) → decodeAt (memory single offsets blob roots table) n k ids ≡ decodeAt (tokens offsets blob) n k ids)
+      → (l : List ℕ) → lookup (tokens offsets blob) i ≡ l → (c : Bool) → leb (length l) n ≡ c
+      → decodeAt (memory single offsets blob roots table) n k (i ∷ ids) ≡ decodeAt (tokens offsets blob) n k (i ∷ ids)
+  same-step n k i ids after [] e c h = decode-absent _ n k i ids (lookup-same i ∙ e) ∙ sym (decode-absent _ n k i ids e)
+  same-step n k i ids after (b ∷ bs) e true h =
+      let fits = leb-true (length (b ∷ bs)) n h in
+      decode-fits _ n k i ids (b ∷ bs) (lookup-same i ∙ e) (omega arith) fits
+      ∙ ap (decoded (b ∷ bs)) (after (n - length (b ∷ bs)) (suc k))
+      ∙ sym (decode-fits _ n k i ids (b ∷ bs) e (omega arith) fits)
+  same-step n k i ids after (b ∷ bs) e false h =
+      let over = leb-false (length (b ∷ bs)) n h in
+      decode-full _ n k i ids (b ∷ bs) (lookup-same i ∙ e) (omega arith) over
+      ∙ sym (decode-full _ n k i ids (b ∷ bs) e (omega arith) over)
+
+  decodeAt-same : (n k : ℕ) (ids : List ℕ) → decodeAt (memory single offsets blob roots table) n k ids ≡ decodeAt (tokens offsets blob) n k ids
+  unfolding decodeAt
+  decodeAt-same n k [] = refl
+  decodeAt-same n k (i ∷ ids) =
+      same-step n k i ids (λ (a b : ℕ). decodeAt-same a b ids) (lookup (tokens offsets blob) i) refl (leb (length (lookup (tokens offsets blob) i)) n) refl
+
+  pub decoding-same : (n : ℕ) (ids : List ℕ) → decoding (memory single offsets blob roots table) n ids ≡ decoding (tokens offsets blob) n ids
+  unfolding decoding
+  decoding-same n ids = decodeAt-same n 0 ids
+
+pub on-short : (m : Memory) (n : ℕ) (ids : List ℕ) → tooShort m ≡ true → decodeOn m n ids ≡ refused 1
+unfolding decodeOn
+on-short m n ids e = rw (e, decodeOn)
+
+pub on-enough : (m : Memory) (n : ℕ) (ids : List ℕ) → tooShort m ≡ false → decodeOn m n ids ≡ decodeOutput (decoding m n ids)
+unfolding decodeOn
+on-enough m n ids e = rw (e, decodeOn)
+
+module _ (single : List ℤ) (offsets blob roots table ids before : List ℕ) (n : ℕ) where
+  pub answered-short : tooShort (memory single offsets [] roots []) ≡ true
+      → Answered (decodeOn (memory single offsets blob roots table) n ids) ShortMemory before before
+  answered-short h =
+      rw (on-short (memory single offsets blob roots table) n ids (short-same single offsets blob roots table ∙ h))
+      (record { answer = refl; cells = refl })
+
+  pub answered : (r : Decoded) (after : List ℕ) → tooShort (memory single offsets [] roots []) ≡ false → Measured (tokens offsets blob) n ids r
+      → after ≡ over (each (lookup (tokens offsets blob)) (take (takenOf r (length ids)) ids)) before
+      → Answered (decodeOn (memory single offsets blob roots table) n ids) r before after
+  answered r after h d w =
+      rw (on-enough (memory single offsets blob roots table) n ids (short-same single offsets blob roots table ∙ h))
+      (rw (decoding-same single offsets blob roots table n ids) (record { answer = d .answer; cells = w ∙ rw (d .bytes) }))
