@@ -15,7 +15,7 @@ use Rattle.spec.specs.Check.{Check, pass, refuse, given, need}
 use Rattle.spec.specs.Utf8.{Range, _to_, within, utf8Of, blank}
 use Rattle.spec.specs.Digits.{hexDigit, hexAfter, hexRun}
 use Rattle.spec.specs.Line.{lf, cr, lessCR, withLF, lastLine, linesAfter, lines, Fields, firstSpace, lastSpace, parted, placed, fields}
-use Rattle.spec.specs.Literal.{Piece, letters, lookUp, byteOrPoint, pointOnly, escapeOf, escape, plain, Read, bad, put, piece, closed, pieceAt, inside, quoted, readWith, whole, read, literal}
+use Rattle.spec.specs.Literal.{Piece, letters, lookUp, byteEscape, pointEscape, escaped, escape, plain, Read, bad, put, piece, closed, pieceAt, inside, quoted, readWith, whole, read, literal}
 use Rattle.laws.specs.Tests.{and-l, and-r}
 use Rattle.loading.specs.Checks.{need-pass, given-pass}
 
@@ -128,7 +128,7 @@ hex-bound (suc n) v w (b ∷ s) e =
     let r : (v + 1) * 16 * 16 ^ n ≡ (v + 1) * 16 ^ (suc n) = mul-assoc (v + 1) 16 (16 ^ n) ∙ ap (λ (x : ℕ). (v + 1) * x) (sym (pow-succ' 16 n)) in
     omega arith
 
-escape-of : (n : ℕ) (o : Option (List ℕ)) (p : Piece) → ((bs : List ℕ) → o ≡ some bs → Bytes bs) → escapeOf n o ≡ some p → Bytes (p .bytes)
+escape-of : (n : ℕ) (o : Option (List ℕ)) (p : Piece) → ((bs : List ℕ) → o ≡ some bs → Bytes bs) → escaped n o ≡ some p → Bytes (p .bytes)
 escape-of n none p h e = absurd (none≢some p e)
 escape-of n (some bs) p h e = let z : record { bytes = bs; more = n } ≡ p = cc in subst (λ (q : Piece). Bytes (q .bytes)) z (h bs refl)
 
@@ -143,31 +143,29 @@ letter-bytes (p ∷ ps) c bs h e = go (eqb c (p .0)) e (λ k. letter-bytes ps c 
     go false e k = k e
 
 pieces-bytes : (inB : Bool) (s : List ℕ) (p : Piece) → escape inB s ≡ some p → Bytes (p .bytes)
-unfolding escape all
+unfolding escape byteEscape pointEscape all
 pieces-bytes inB [] p e = absurd (none≢some p e)
 pieces-bytes inB (c ∷ s) p e = x-first (eqb c 0x78) (eqb c 0x75) e
   where
-    two : (bs : List ℕ) → bind (hexRun 2 s) (byteOrPoint inB) ≡ some bs → Bytes bs
-    two bs e = let (v, q, r) = bind-some (hexRun 2 s) (byteOrPoint inB) bs e in of inB v (hex-bound 2 0 v s q) r
-      where
-        of : (i : Bool) (v : ℕ) → v < (0 + 1) * 16 ^ 2 → byteOrPoint i v ≡ some bs → Bytes bs
-        of true v h e = let z : v ∷ [] ≡ bs = cc in subst Bytes z (omega arith, tt)
-        of false v h e = let z : utf8Of v ≡ bs = cc in subst Bytes z (utf8-bytes v)
+    two : (bs : List ℕ) → bind (hexRun 2 s) (λ v. some (cond inB (v ∷ []) (utf8Of v))) ≡ some bs → Bytes bs
+    two bs e =
+        let (v, q, r) = bind-some (hexRun 2 s) (λ v. some (cond inB (v ∷ []) (utf8Of v))) bs e in
+        let h = hex-bound 2 0 v s q in
+        let z : cond inB (v ∷ []) (utf8Of v) ≡ bs = cc in
+        subst Bytes z (bytes-cond inB (v ∷ []) (utf8Of v) (λ t. (omega arith, tt)) (λ t. utf8-bytes v))
 
-    four : (bs : List ℕ) → bind (hexRun 4 s) (pointOnly inB) ≡ some bs → Bytes bs
-    four bs e = let (v, q, r) = bind-some (hexRun 4 s) (pointOnly inB) bs e in of inB v r
+    four : (bs : List ℕ) → bind (hexRun 4 s) (λ v. cond (inB || within (0xD800 to 0xDFFF) v) none (some (utf8Of v))) ≡ some bs → Bytes bs
+    four bs e =
+        let (v, q, r) = bind-some (hexRun 4 s) (λ v. cond (inB || within (0xD800 to 0xDFFF) v) none (some (utf8Of v))) bs e in
+        at v (inB || within (0xD800 to 0xDFFF) v) r
       where
-        of : (i : Bool) (v : ℕ) → pointOnly i v ≡ some bs → Bytes bs
-        of true v e = absurd (none≢some bs e)
-        of false v e = at (within (0xD800 to 0xDFFF) v) e
-          where
-            at : (t : Bool) → cond t none (some (utf8Of v)) ≡ some bs → Bytes bs
-            at true e = absurd (none≢some bs e)
-            at false e = let z : utf8Of v ≡ bs = cc in subst Bytes z (utf8-bytes v)
+        at : (v : ℕ) (t : Bool) → cond t none (some (utf8Of v)) ≡ some bs → Bytes bs
+        at v true e = absurd (none≢some bs e)
+        at v false e = let z : utf8Of v ≡ bs = cc in subst Bytes z (utf8-bytes v)
 
-    x-first : (x u : Bool) → cond x (escapeOf 3 (bind (hexRun 2 s) (byteOrPoint inB))) (cond u (escapeOf 5 (bind (hexRun 4 s) (pointOnly inB))) (escapeOf 1 (lookUp letters c))) ≡ some p → Bytes (p .bytes)
-    x-first true u e = escape-of 3 (bind (hexRun 2 s) (byteOrPoint inB)) p two e
-    x-first false true e = escape-of 5 (bind (hexRun 4 s) (pointOnly inB)) p four e
+    x-first : (x u : Bool) → cond x (byteEscape inB s) (cond u (pointEscape inB s) (escaped 1 (lookUp letters c))) ≡ some p → Bytes (p .bytes)
+    x-first true u e = escape-of 3 (bind (hexRun 2 s) (λ v. some (cond inB (v ∷ []) (utf8Of v)))) p two e
+    x-first false true e = escape-of 5 (bind (hexRun 4 s) (λ v. cond (inB || within (0xD800 to 0xDFFF) v) none (some (utf8Of v)))) p four e
     x-first false false e = escape-of 1 (lookUp letters c) p (λ bs k. letter-bytes letters c bs refl k) e
 
 plain-bytes : (inB : Bool) (quote b : ℕ) (p : Piece) → b < 256 → plain inB quote b ≡ some p → Bytes (p .bytes)
