@@ -10,7 +10,7 @@ use Prim.Native.Nat.{ℕ, zero, suc, pred, _+_, _*_, _/_, _%_, _≤_, _<_}
 use native.Mathlib.Nat.{not-suc-le-zero}
 use native.Mathlib.Omega.{arith}
 use lib.Dec.{leb}
-use borrow.Author.Tests.{eq-eqb}
+use borrow.Author.Tests.{le-leb, lt-leb, leb-true, eq-eqb}
 use lib.ListN.{length, take, drop}
 use Rattle.spec.specs.Lists.{any, all, each, byteIn}
 
@@ -229,6 +229,66 @@ unfolding all whitePart partsAt
 blank s = all whitePart (parts s)
 
 -- ── Equations ────────────────────────────────────────────────────────
+
+-- a number in a range, and one outside it
+abbrev pub In : Range → ℕ → Type 0
+In r n = (r .low ≤ n) × (n ≤ r .high)
+
+abbrev pub Out : Range → ℕ → Type 0
+Out r n = r .low ≤ n → n ≤ r .high → ⊥
+
+pub inside : (r : Range) (n : ℕ) → In r n → within r n ≡ true
+inside r n h = rw (le-leb (r .low) n (h .0), le-leb n (r .high) (h .1))
+
+pub outside : (r : Range) (n : ℕ) → Out r n → within r n ≡ false
+outside r n h = go (leb (r .low) n) refl (leb n (r .high)) refl
+  where
+    go : (a : Bool) → leb (r .low) n ≡ a → (b : Bool) → leb n (r .high) ≡ b → a && b ≡ false
+    go true e true f = absurd (h (leb-true (r .low) n e) (leb-true n (r .high) f))
+    go true e false f = refl
+    go false e b f = refl
+
+-- the rows of the table of code points
+module _ (c : ℕ) where
+  pub utf8-1 : c ≤ 0x7F → utf8Of c ≡ c ∷ []
+  unfolding utf8Of
+  utf8-1 h = rw (le-leb c 0x7F h)
+
+  pub utf8-2 : 0x7F < c → c ≤ 0x7FF → utf8Of c ≡ (0xC0 + c / 64) ∷ (0x80 + c % 64) ∷ []
+  unfolding utf8Of
+  utf8-2 l h = rw (lt-leb c 0x7F l, le-leb c 0x7FF h)
+
+  pub utf8-3 : 0x7FF < c → c ≤ 0xFFFF → Out (0xD800 to 0xDFFF) c →
+      utf8Of c ≡ (0xE0 + c / 4096) ∷ (0x80 + c / 64 % 64) ∷ (0x80 + c % 64) ∷ []
+  unfolding utf8Of
+  utf8-3 l h o =
+      let k : 0x7F < c = omega arith in
+      rw (lt-leb c 0x7F k, lt-leb c 0x7FF l, outside (0xD800 to 0xDFFF) c o, le-leb c 0xFFFF h)
+
+  pub utf8-4 : 0xFFFF < c → c ≤ 0x10FFFF →
+      utf8Of c ≡ (0xF0 + c / 262144) ∷ (0x80 + c / 4096 % 64) ∷ (0x80 + c / 64 % 64) ∷ (0x80 + c % 64) ∷ []
+  unfolding utf8Of
+  utf8-4 l h =
+      let k : 0x7F < c = omega arith in
+      let m : 0x7FF < c = omega arith in
+      let o : Out (0xD800 to 0xDFFF) c = omega arith in
+      rw (lt-leb c 0x7F k, lt-leb c 0x7FF m, outside (0xD800 to 0xDFFF) c o, lt-leb c 0xFFFF l, le-leb c 0x10FFFF h)
+
+  pub utf8-surrogate : In (0xD800 to 0xDFFF) c → utf8Of c ≡ []
+  unfolding utf8Of
+  utf8-surrogate h =
+      let k : 0x7F < c = omega arith in
+      let m : 0x7FF < c = omega arith in
+      rw (lt-leb c 0x7F k, lt-leb c 0x7FF m, inside (0xD800 to 0xDFFF) c h)
+
+  pub utf8-above : 0x10FFFF < c → utf8Of c ≡ []
+  unfolding utf8Of
+  utf8-above l =
+      let k : 0x7F < c = omega arith in
+      let m : 0x7FF < c = omega arith in
+      let o : Out (0xD800 to 0xDFFF) c = omega arith in
+      let n : 0xFFFF < c = omega arith in
+      rw (lt-leb c 0x7F k, lt-leb c 0x7FF m, outside (0xD800 to 0xDFFF) c o, lt-leb c 0xFFFF n, lt-leb c 0x10FFFF l)
 
 follow-pos : (n : ℕ) (rs : List Range) (s : List ℕ) → 0 < n → 0 < size (follow n rs s)
 unfolding follow

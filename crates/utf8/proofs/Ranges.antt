@@ -7,29 +7,9 @@ use mathlib.Core.Option.{Option, none, some}
 use mathlib.Core.List.{List, [], _∷_}
 use Prim.Native.Nat.{ℕ, zero, suc, _≤_, _<_}
 use native.Mathlib.Omega.{arith}
-use lib.Dec.{leb}
-use lib.ListN.{getD}
-use borrow.Author.Tests.{le-leb, leb-true}
 use types.Run.{OneOf}
 use Rattle.spec.specs.Lists.{any, all}
-use Rattle.spec.specs.Utf8.{Range, Rule, _to_, _then_, within, grammar, ruleFor, after, whiteRanges, whiteSpace}
-
-abbrev pub In : Range → ℕ → Type 0
-In r n = (r .low ≤ n) × (n ≤ r .high)
-
-abbrev pub Out : Range → ℕ → Type 0
-Out r n = r .low ≤ n → n ≤ r .high → ⊥
-
-pub inside : (r : Range) (n : ℕ) → In r n → within r n ≡ true
-inside r n h = rw (le-leb (r .low) n (h .0), le-leb n (r .high) (h .1))
-
-pub outside : (r : Range) (n : ℕ) → Out r n → within r n ≡ false
-outside r n h = go (leb (r .low) n) refl (leb n (r .high)) refl
-  where
-    go : (a : Bool) → leb (r .low) n ≡ a → (b : Bool) → leb n (r .high) ≡ b → a && b ≡ false
-    go true e true f = absurd (h (leb-true (r .low) n e) (leb-true n (r .high) f))
-    go true e false f = refl
-    go false e b f = refl
+use Rattle.spec.specs.Utf8.{Range, Rule, _to_, _then_, within, grammar, In, Out, inside, outside, ruleFor, after, whiteRanges, whiteSpace}
 
 -- n lies in no range of the list
 abbrev pub Nowhere : List Range → ℕ → Type 0

@@ -10,7 +10,7 @@ use native.Mathlib.Omega.{arith}
 use lib.ListN.{length, getD, take, drop, replicate, length-drop, drop-of-length-le}
 use lib.Seq.{drop-cons, drop-drop}
 use Rattle.spec.specs.Utf8.{Range, _to_, tail, grammar, after, Step, char, bad, cut, size, isChar, follow, followed, stepOf}
-use Rattle.spec.specs.Utf8.{step-nil, step-cons, step-least, step-within}
+use Rattle.spec.specs.Utf8.{In, Out, inside, outside, step-nil, step-cons, step-least, step-within}
 use Rattle.spec.specs.Utf8.{firstBadFrom, first-bad-nil, first-bad-char, first-bad-other}
 use Rattle.spec.specs.Utf8.{pointOf, whiteSpace, blank, blank-nil, blank-char, blank-other}
 use denote.Enum.Declared.{tagOf, declared}
@@ -19,7 +19,7 @@ use Rattle.utf8.specs.declared.Step.{Step as Found}
 use Rattle.utf8.specs.declared.Step.the-variants.{Char, Bad, Cut}
 use Rattle.utf8.proofs.Step.{enum}
 use Rattle.utf8.specs.Means.{ranges, stepMeans}
-use Rattle.utf8.proofs.Ranges.{In, Out, inside, outside, after-at}
+use Rattle.utf8.proofs.Ranges.{after-at}
 
 -- the answers of `step_at` that are no character
 pub no-char : (r : Found) → OneOf (1 ∷ 2 ∷ []) (tagOf (declared enum) r) → isChar (stepMeans r) ≡ false

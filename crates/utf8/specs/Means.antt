@@ -1,14 +1,15 @@
 -- What the answers of the code mean, in the terms of `spec`. Assumes nothing.
 use mathlib.Core.Option.{Option, none, some}
-use mathlib.Core.List.{List, [], _∷_}
-use Prim.Native.Nat.{ℕ, zero, suc}
-use lib.ListN.{replicate}
+use mathlib.Core.List.{List, [], _∷_, _++_}
+use Prim.Native.Nat.{ℕ, zero, suc, _-_}
+use lib.ListN.{length, replicate}
 use Rattle.spec.specs.Utf8.{Range, _to_, tail}
 use Rattle.spec.specs.Utf8 as U
 use Rattle.utf8.specs.declared.Lead.{Lead}
 use Rattle.utf8.specs.declared.Lead.the-variants.{Nothing, Follow}
 use Rattle.utf8.specs.declared.Step.{Step}
 use Rattle.utf8.specs.declared.Step.the-variants.{Char, Bad, Cut}
+use Rattle.utf8.specs.declared.Encoded.{Encoded}
 use Rattle.utf8.specs.declared.Text.{Text}
 use Rattle.utf8.specs.declared.Text.the-variants.{WellFormed, BadAt}
 
@@ -30,3 +31,10 @@ stepMeans (Cut n) = U.cut n
 abbrev pub textMeans : Text → Option ℕ
 textMeans WellFormed = none
 textMeans (BadAt i) = some i
+
+-- a few bytes in an array of n: zeros after them
+abbrev pub padded : ℕ → List ℕ → List ℕ
+padded n bytes = bytes ++ replicate (n - length bytes) 0
+
+abbrev pub encodedAs : List ℕ → Encoded
+encodedAs bytes = record { bytes = padded 4 bytes; len = length bytes }

@@ -3,10 +3,10 @@
 // `spec`, or of this crate's specs/ for the reader.
 ghost use mathlib.Core.Path.{_≡_};
 ghost use mathlib.Core.List.{[], _∷_};
-ghost use Prim.Native.Nat.{_+_, _≤_, _<_};
+ghost use Prim.Native.Nat.{_+_, _/_, _%_, _≤_};
 ghost use lib.ListN.{length, take, drop};
-ghost use Rattle.spec.specs.Utf8.{after, stepOf, firstBad, pointOf, whiteSpace, blank};
-ghost use Rattle.utf8.specs.Means.{leadMeans, stepMeans, textMeans};
+ghost use Rattle.spec.specs.Utf8.{after, stepOf, firstBad, utf8Of, pointOf, whiteSpace, blank};
+ghost use Rattle.utf8.specs.Means.{leadMeans, stepMeans, textMeans, encodedAs};
 
 // What the first byte of a character says: so many bytes must follow, the first of them from a low to a high end and the others
 // from 80 to BF; or that no character begins with it.
@@ -170,4 +170,77 @@ pub fn is_blank(line: &[u8]) -> bool
         i += n;
     }
     true
+}
+
+// The bytes of a character: `len` of them, and zeros.
+pub struct Encoded {
+    pub bytes: [u8; 4],
+    pub len: usize,
+}
+
+// The bytes of a code point by the rows of the table of RFC 3629, section 3.
+fn encode_1(c: u32) -> Encoded
+    requires { ⌜ c ≤ 0x7F ⌝ }
+    ensures { λ r. ⌜ r ≡ encodedAs (c ∷ []) ⌝ }
+{
+    Encoded {
+        bytes: [c as u8, 0, 0, 0],
+        len: 1,
+    }
+}
+
+fn encode_2(c: u32) -> Encoded
+    requires { ⌜ c ≤ 0x7FF ⌝ }
+    ensures { λ r. ⌜ r ≡ encodedAs ((0xC0 + c / 64) ∷ (0x80 + c % 64) ∷ []) ⌝ }
+{
+    Encoded {
+        bytes: [(0xc0 + c / 64) as u8, (0x80 + c % 64) as u8, 0, 0],
+        len: 2,
+    }
+}
+
+fn encode_3(c: u32) -> Encoded
+    requires { ⌜ c ≤ 0xFFFF ⌝ }
+    ensures { λ r. ⌜ r ≡ encodedAs ((0xE0 + c / 4096) ∷ (0x80 + c / 64 % 64) ∷ (0x80 + c % 64) ∷ []) ⌝ }
+{
+    Encoded {
+        bytes: [
+            (0xe0 + c / 4096) as u8,
+            (0x80 + c / 64 % 64) as u8,
+            (0x80 + c % 64) as u8,
+            0,
+        ],
+        len: 3,
+    }
+}
+
+fn encode_4(c: u32) -> Encoded
+    requires { ⌜ c ≤ 0x10FFFF ⌝ }
+    ensures { λ r. ⌜ r ≡ encodedAs ((0xF0 + c / 262144) ∷ (0x80 + c / 4096 % 64) ∷ (0x80 + c / 64 % 64) ∷ (0x80 + c % 64) ∷ []) ⌝ }
+{
+    Encoded {
+        bytes: [
+            (0xf0 + c / 262144) as u8,
+            (0x80 + c / 4096 % 64) as u8,
+            (0x80 + c / 64 % 64) as u8,
+            (0x80 + c % 64) as u8,
+        ],
+        len: 4,
+    }
+}
+
+// The bytes of the code point `c`; none for a surrogate or a number above 10FFFF.
+pub fn encode(c: u32) -> Encoded
+    ensures { λ r. ⌜ r ≡ encodedAs (utf8Of c) ⌝ }
+{
+    match c {
+        0x0000..=0x007f => encode_1(c),
+        0x0080..=0x07ff => encode_2(c),
+        0x0800..=0xd7ff | 0xe000..=0xffff => encode_3(c),
+        0x10000..=0x10ffff => encode_4(c),
+        _ => Encoded {
+            bytes: [0, 0, 0, 0],
+            len: 0,
+        },
+    }
 }

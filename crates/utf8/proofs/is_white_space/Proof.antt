@@ -6,8 +6,8 @@ use mathlib.Core.List.{List, [], _∷_}
 use Prim.Native.Nat.{ℕ}
 use native.Mathlib.Omega.{arith}
 use Rattle.spec.specs.Lists.{all}
-use Rattle.spec.specs.Utf8.{_to_, whiteRanges, whiteSpace}
-use Rattle.utf8.proofs.Ranges.{Out, white-in, white-out, key-passes, NoneOf, none-of}
+use Rattle.spec.specs.Utf8.{_to_, Out, whiteRanges, whiteSpace}
+use Rattle.utf8.proofs.Ranges.{white-in, white-out, key-passes, NoneOf, none-of}
 use Rattle.utf8.proofs.is_white_space.Statement.{statement}
 use Rattle.utf8.proofs.is_white_space.Tie as tie
 
