@@ -1,14 +1,13 @@
--- A node's children as a chain through an array: first child, then next sibling. What a new child changes. Assumes nothing.
-use mathlib.Core.Path.{_≡_, refl, sym, ap, ap₂, _∙_, subst}
+-- The numbers of a node's children, what a new node changes in them, and the search for a child by its label. Assumes nothing.
+use mathlib.Core.Path.{_≡_, refl, sym, ap, ap₂, _∙_}
 use mathlib.Core.Logic.{inl, inr}
 use mathlib.Core.Bool.{Bool, cond}
 use mathlib.Core.List.{List, [], _∷_, _++_, map, append-nil, append-cancel-left, head-eq-of-cons-eq, List·Memᴰ as Mem}
-use mathlib.Core.List.{List·Memᴰ·head as here, List·Memᴰ·tail as there, Memᴰ·append-right as mem-right, Memᴰ·of-map as mem-of-map}
-use Prim.Native.Nat.{ℕ, suc, _≤_, _<_}
+use mathlib.Core.List.{List·Memᴰ·head as here, List·Memᴰ·tail as there, Memᴰ·of-map as mem-of-map}
+use Prim.Native.Nat.{ℕ, suc}
 use native.Mathlib.Omega.{arith}
 use lib.Dec.{eqb}
-use lib.ListN.{length, getD, set}
-use lib.Seq.{getD-set-same, getD-set-other}
+use lib.ListN.{length, getD}
 use borrow.Author.Tests.{eqb-true, eq-eqb}
 use Rattle.spec.specs.Trie.{labels}
 use Rattle.laws.specs.Tests.{Tested, either, no-true}
@@ -71,39 +70,9 @@ kids-fresh ps p f =
     fresh-map _ (labels ps p) (labels-fresh ps p f)
     (λ x y m n e. last-inj p x y (number-inj ps (label-node ps p x m) (label-node ps p y n) e))
 
--- ---- chains
+-- ---- a child by its label
 
-abbrev pub Chain : List ℕ → ℕ → List ℕ → Type 0
-Chain nx h [] = h ≡ 0
-Chain nx h (c ∷ cs) = (h ≡ c) × (1 ≤ c) × Chain nx (getD nx c 0) cs
-
--- a store at a node that is not in the chain
-pub chain-frame : (nx : List ℕ) (t v : ℕ) (l : List ℕ) (h : ℕ) → (Mem t l → ⊥) → Chain nx h l → Chain (set nx t v) h l
-chain-frame nx t v [] h n k = k
-chain-frame nx t v (c ∷ cs) h n k = (
-  k .0,
-  k .1,
-  subst (λ (z : ℕ). Chain (set nx t v) z cs) (sym (getD-set-other nx t c v 0 (λ e. n (here (sym e)))))
-      (chain-frame nx t v cs (getD nx c 0) (λ m. n (there m)) (k .2)),
-)
-
--- the first child
-pub chain-first : (nx : List ℕ) (c : ℕ) → 1 ≤ c → getD nx c 0 ≡ 0 → Chain nx c (c ∷ [])
-chain-first nx c h z = (refl, h, z)
-
--- one more at the end, by a store at the last
-pub chain-more : (nx : List ℕ) (t c : ℕ) (m : List ℕ) (h : ℕ) → t < length nx → 1 ≤ c → (c ≡ t → ⊥) → getD nx c 0 ≡ 0
-    → Fresh (m ++ (t ∷ []))
-    → Chain nx h (m ++ (t ∷ [])) → Chain (set nx t c) h ((m ++ (t ∷ [])) ++ (c ∷ []))
-chain-more nx t c [] h ht hc ne z f k = (k .0, k .1, (getD-set-same nx t c 0 ht, hc, getD-set-other nx t c c 0 ne ∙ z))
-chain-more nx t c (x ∷ m) h ht hc ne z f k = (
-  k .0,
-  k .1,
-  subst (λ (y : ℕ). Chain (set nx t c) y ((m ++ (t ∷ [])) ++ (c ∷ []))) (sym (getD-set-other nx t x c 0 (λ e. f .0 (mem-right m (here e)))))
-      (chain-more nx t c m (getD nx x 0) ht hc ne z (f .1) (k .2)),
-)
-
--- the walk along a chain for a label: what a loop has to show at each turn
+-- the first of cs with the label b, 0 if none has it
 unfoldable pub seek : (ℕ → ℕ) → ℕ → List ℕ → ℕ
 seek lab b [] = 0
 seek lab b (c ∷ cs) = let r = seek lab b cs in cond (eqb (lab c) b) c r

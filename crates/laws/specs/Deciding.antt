@@ -21,10 +21,10 @@ use Rattle.running.specs.Prefixes.{proper-length}
 use Rattle.running.specs.Longest.{proper-iff}
 use Rattle.laws.specs.Tests.{clash, and-l, and-r, iff-eq, any-find, any-mem, has-mem, mem-has, mem-pos}
 use Rattle.laws.specs.Tokens.{byte-at}
-use Rattle.laws.specs.Nodes.{node-is, token-node, node-cut, label-node, node-label}
+use Rattle.laws.specs.Nodes.{cut-all, node-is, token-node, node-cut, label-node, node-label}
 use Rattle.laws.specs.Step.{Holds, Unheld, base-cases, placed, held-child, base-pos, word-pos}
 use Rattle.laws.specs.Reads.{root-at, root-length}
-use Rattle.laws.specs.Walk.{cut-all, Reached, node-long, root-word, walk-cases}
+use Rattle.laws.specs.Walk.{Reached, node-long, root-word, walk-cases}
 
 -- ---- one byte: its row of roots
 

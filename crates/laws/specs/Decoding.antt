@@ -9,7 +9,7 @@ use native.Mathlib.Omega.{arith}
 use lib.ListN.{length, length-append}
 use borrow.Author.Tests.{le-leb, lt-leb}
 use Rattle.spec.specs.Lists.{all, each}
-use Rattle.spec.specs.Token.{Token, bytesOf, joined, present, short}
+use Rattle.spec.specs.Token.{Token, bytesOf, joined, present}
 use Rattle.spec.specs.Memory.{Memory, Loaded}
 use Rattle.spec.specs.Decode.{lookup, Decoding, decoded, decodeAt, decoding}
 use Rattle.spec.specs.Decode as decode

@@ -2,7 +2,7 @@
 use mathlib.Core.Path.{_≡_, refl, sym, ap, ap₂, _∙_, subst}
 use mathlib.Core.Logic.{_⊎_, inl, inr}
 use mathlib.Core.List.{List, [], _∷_, _++_, append-nil, append-assoc, head-eq-of-cons-eq, List·Memᴰ as Mem}
-use Prim.Native.Nat.{ℕ, zero, suc, _+_, _-_, _≤_, _<_}
+use Prim.Native.Nat.{ℕ, zero, suc, _+_, _-_, _≤_, _<_, max}
 use native.Mathlib.Omega.{arith}
 use lib.Dec.{lit<, leb}
 use lib.IntN.{pos}
@@ -10,28 +10,26 @@ use lib.ListN.{length, take, getD, length-take, length-append, drop, length-drop
 use lib.Seq.{take-at, take-append-add}
 use borrow.Author.Tests.{eq-eqb, leb-true, leb-false, ne-eqb}
 use Rattle.spec.specs.Lists.{Bytes}
-use Rattle.spec.specs.Token.{Token, longer, longest, idOf}
+use Rattle.spec.specs.Token.{Token, longest, idOf}
 use Rattle.spec.specs.Trie.{nodes}
-use Rattle.spec.specs.Layout.{top}
-use Rattle.spec.specs.Valid.{Valid}
 use Rattle.spec.specs.Memory.{Memory, idOrNone, Loaded}
 use Rattle.spec.specs.Match.{Walk, noWalk, walkOn, one, matchOn, found}
 use Rattle.spec.specs.Plain.{Prefix}
 use Rattle.spec.specs.Theorems.{matchOf, Matching}
 use Rattle.running.specs.Prefixes.{prefix-length}
-use Rattle.running.specs.Longest.{longest-iff, longest-none-iff}
+use Rattle.running.specs.Longest.{IsLongest, longest-iff, longest-none-iff}
 use Rattle.laws.specs.Tests.{Tested, either}
-use Rattle.laws.specs.Tokens.{id-cases, id-pos, id-low}
-use Rattle.laws.specs.Nodes.{Cut, node-is, token-node}
+use Rattle.laws.specs.Tokens.{TokenOf, id-cases, id-pos, id-low}
+use Rattle.laws.specs.Nodes.{Cut, cut-length, node-is, token-node}
 use Rattle.laws.specs.Reads.{single-at}
-use Rattle.laws.specs.Walk.{Passed, cut-length, passed-start, passed-more, Reached, walk-cases}
+use Rattle.laws.specs.Walk.{Passed, passed-start, passed-more, Reached, walk-cases}
 
 -- ---- what the walk found
 
 -- where a token goes on beyond p along p ++ (d ∷ r), there is a node
 onward : {ts : List Token} (p : List ℕ) (d : ℕ) (r : List ℕ) (t : Token) → Mem t ts → 1 ≤ length p → length p < length (t .bytes)
     → Cut (t .bytes) (p ++ (d ∷ r)) → Mem (p ++ (d ∷ [])) (nodes ts)
-onward {ts} p d r t m one longer c = token-node ts p d (take k r) m whole one
+onward {ts} p d r t m h l c = token-node ts p d (take k r) m whole h
   where
     k : ℕ
     k = length (t .bytes) - suc (length p)
@@ -115,50 +113,47 @@ one-byte [] a s h w = absurd (omega arith)
 one-byte (b ∷ []) a s h (r, e) = ap (λ (z : ℕ). z ∷ []) (sym (head-eq-of-cons-eq e))
 one-byte (b ∷ c ∷ q) a s h w = absurd (omega arith)
 
-module _ {m : Memory} {ts : List Token} (L : Loaded m ts) (a : ℕ) (s : List ℕ) where
-  abbrev v : Valid ts
-  v = L .valid
+-- no token that begins s is longer than the one passed, but for one of one byte
+passed-most : {ts : List Token} {s : List ℕ} {i n : ℕ} → Passed ts s i n → (u : Token) → Mem u ts → Prefix (u .bytes) s
+    → length (u .bytes) ≤ max 1 n
+passed-most {n} w u m b = go (either (leb 2 (length (u .bytes))))
+  where
+    go : Tested (leb 2 (length (u .bytes))) → length (u .bytes) ≤ max 1 n
+    go (inl e) = omega (arith, w .longest u m (prefix-cut (leb-true 2 (length (u .bytes)) e) b))
+    go (inr e) = omega (arith, leb-false 2 (length (u .bytes)) e)
 
-  -- a longer token: it is the longest
+module _ {m : Memory} {ts : List Token} (L : Loaded m ts) (a : ℕ) (s : List ℕ) where
+  -- a token of two or more bytes was passed: it is the longest
   match-long : (i n : ℕ) → 1 ≤ i → Passed ts (a ∷ s) i n → found i n ≡ matchOf (longest ts (a ∷ s))
   match-long i n h w =
       let (t, k, c, e, l) = w .token h in
-      let top : (u : Token) → Mem u ts → Prefix (u .bytes) (a ∷ s) → length (u .bytes) ≤ length (t .bytes) =
-      λ u j b. most t u c l j b (either (leb 2 (length (u .bytes)))) in
-      ap₂ found (sym e) (sym l) ∙ ap matchOf (sym (longest-iff ts v (a ∷ s) t .1 (k, (c .rest, c .split), top)))
-    where
-      most : (t u : Token) → Cut (t .bytes) (a ∷ s) → length (t .bytes) ≡ n → Mem u ts → Prefix (u .bytes) (a ∷ s)
-          → Tested (leb 2 (length (u .bytes))) → length (u .bytes) ≤ length (t .bytes)
-      most t u c l j b (inl e) = let k = w .longest u j (prefix-cut (leb-true 2 (length (u .bytes)) e) b) in omega arith
-      most t u c l j b (inr e) = let k = leb-false 2 (length (u .bytes)) e in let o = c .two in omega arith
+      let two = c .two in
+      let is-longest : IsLongest ts (a ∷ s) t = (k, (c .rest, c .split), λ u j b. omega (arith, passed-most w u j b)) in
+      ap₂ found (sym e) (sym l) ∙ ap matchOf (sym (longest-iff ts (L .valid) (a ∷ s) t .1 is-longest))
 
-  -- else a token there has one byte
+  -- none was: a token that begins the bytes is their first byte
   match-one : (n : ℕ) → Passed ts (a ∷ s) 0 n → one (idOrNone (idOf ts (a ∷ []))) ≡ matchOf (longest ts (a ∷ s))
   match-one n w = go (id-cases ts (a ∷ []))
     where
       length-one : (u : Token) → Mem u ts → Prefix (u .bytes) (a ∷ s) → length (u .bytes) ≡ 1
-      length-one u k b = at (either (leb 2 (length (u .bytes))))
-        where
-          at : Tested (leb 2 (length (u .bytes))) → length (u .bytes) ≡ 1
-          at (inl e) =
-              let c = prefix-cut (leb-true 2 (length (u .bytes)) e) b in
-              let x = w .longest u k c in let z = w .none refl in let y = c .two in absurd (omega arith)
-          at (inr e) = let x = leb-false 2 (length (u .bytes)) e in let y = v .nonempty u k in omega arith
+      length-one u k b = omega (arith, passed-most w u k b, w .none refl, L .valid .nonempty u k)
 
-      go : (idOf ts (a ∷ []) ≡ 0) ⊎ ((t : Token) × Mem t ts × (t .bytes ≡ a ∷ []) × (idOf ts (a ∷ []) ≡ t .id))
-          → one (idOrNone (idOf ts (a ∷ []))) ≡ matchOf (longest ts (a ∷ s))
-      go (inl z) = rw z (ap matchOf (sym (longest-none-iff ts (a ∷ s) .1 (λ u k b.
-          let p = id-pos (a ∷ []) (id-low ts v) k (one-byte (u .bytes) a s (length-one u k b) b) in omega arith))))
+      go : (idOf ts (a ∷ []) ≡ 0) ⊎ TokenOf ts (a ∷ []) → one (idOrNone (idOf ts (a ∷ []))) ≡ matchOf (longest ts (a ∷ s))
+      go (inl z) = rw z (ap matchOf (sym (longest-none-iff ts (a ∷ s) .1 missing)))
+        where
+          missing : (u : Token) → Mem u ts → Prefix (u .bytes) (a ∷ s) → ⊥
+          missing u k b = omega (arith, id-pos (a ∷ []) (id-low ts (L .valid)) k (one-byte (u .bytes) a s (length-one u k b) b))
       go (inr (t, k, e, j)) =
           let l : length (t .bytes) ≡ 1 = ap length e in
-          rw j (one-found (t .id) (id-low ts v t k) ∙ ap (found (t .id)) (sym l)
-          ∙ ap matchOf (sym (longest-iff ts v (a ∷ s) t .1
-          (k, (s, ap (λ (z : List ℕ). z ++ s) (sym e)), λ u i b. let x = length-one u i b in omega arith))))
+          let is-longest : IsLongest ts (a ∷ s) t = (k, (s, ap (λ (z : List ℕ). z ++ s) (sym e)), λ u i b. omega (arith, length-one u i b)) in
+          rw j (one-found (t .id) (id-low ts (L .valid) t k) ∙ ap (found (t .id)) (sym l)
+          ∙ ap matchOf (sym (longest-iff ts (L .valid) (a ∷ s) t .1 is-longest)))
 
 pub matching : Matching
-matching m ts L [] small =
-    unfold matchOn in ap matchOf
-    (sym (longest-none-iff ts [] .1 (λ u k b. let x = L .valid .nonempty u k in let y = prefix-length (u .bytes) [] b in omega arith)))
+matching m ts L [] small = unfold matchOn in ap matchOf (sym (longest-none-iff ts [] .1 missing))
+  where
+    missing : (u : Token) → Mem u ts → Prefix (u .bytes) [] → ⊥
+    missing u k b = omega (arith, L .valid .nonempty u k, prefix-length (u .bytes) [] b)
 matching m ts L (a ∷ s) small = go (K .id) refl (walk-passed L a s small)
   where
     K : Walk

@@ -2,14 +2,15 @@
 use mathlib.Core.Path.{_≡_, refl, sym, ap, ap₂, _∙_, subst}
 use mathlib.Core.Logic.{_⊎_, inl, inr}
 use mathlib.Core.Bool.{Bool, true, false, _&&_, _||_, cond, and-false, and-true, or-false}
-use mathlib.Core.List.{List, [], _∷_, _++_, append-assoc, List·Memᴰ as Mem, List·Memᴰ·head as here, List·Memᴰ·tail as there}
+use mathlib.Core.List.{List, [], _∷_, _++_, append-nil, append-assoc, List·Memᴰ as Mem, List·Memᴰ·head as here, List·Memᴰ·tail as there}
 use mathlib.Core.List.{List·Memᴰ·cases-cons as cases-cons, List·Memᴰ·not-nil as not-nil, List·Memᴰ·append-cases as append-cases}
 use mathlib.Core.List.{List·Memᴰ·eq-of-singleton as eq-of-singleton, Memᴰ·append-left as mem-left, Memᴰ·append-right as mem-right}
 use mathlib.Core.List.{Memᴰ·cast as mem-cast}
 use Prim.Native.Nat.{ℕ, zero, suc, _+_, _≤_, _<_}
 use native.Mathlib.Omega.{arith}
 use lib.Dec.{eqb, lit<}
-use lib.ListN.{length, length-append}
+use lib.ListN.{length, take, length-append, drop, take-append-drop}
+use lib.Seq.{take-all, take-at, take-append-le}
 use borrow.Author.Tests.{eqb-true, eqb-false}
 use Rattle.spec.specs.Lists.{any, each, fold, same, has, byteIn}
 use Rattle.spec.specs.Token.{Token}
@@ -114,6 +115,32 @@ unfolding cuts
 cut-cuts s [] c = let h = c .two in absurd (omega arith)
 cut-cuts s (a ∷ []) c = let h = c .two in absurd (omega arith)
 cut-cuts s (a ∷ b ∷ q) c = subst (λ (z : List ℕ). Mem (a ∷ b ∷ q) (cuts z)) (sym (c .split)) (cut-extended (a ∷ []) b q (c .rest))
+
+pub cut-length : {q s : List ℕ} → Cut q s → length q ≤ length s
+cut-length {q} c = omega (arith, simp length-append at (ap length (c .split)))
+
+pub cut-append : {q s : List ℕ} (r : List ℕ) → Cut q s → Cut q (s ++ r)
+cut-append {q} r c =
+    record { rest = c .rest ++ r; split = ap (λ (z : List ℕ). z ++ r) (c .split) ∙ append-assoc q (c .rest) r; two = c .two }
+
+-- what begins p ++ r and is no longer than p begins p
+pub cut-within : {q : List ℕ} (p r : List ℕ) → Cut q (p ++ r) → length q ≤ length p → Cut q p
+cut-within {q} p r c h = record {
+  rest = drop (length q) p;
+  split = sym (take-append-drop (length q) p) ∙ ap (λ (z : List ℕ). z ++ drop (length q) p) same-start;
+  two = c .two;
+}
+  where
+    same-start : take (length q) p ≡ q
+    same-start = sym (take-append-le (length q) p r h) ∙ ap (take (length q)) (c .split) ∙ take-at q (c .rest) (length q) refl
+
+-- what begins s and is as long is s
+pub cut-all : {q s : List ℕ} → Cut q s → length s ≤ length q → q ≡ s
+cut-all {q} {s} c h = sym (sym (take-all (length q) s h) ∙ ap (take (length q)) (c .split) ∙ take-at q (c .rest) (length q) refl)
+
+-- a string of two or more bytes begins itself
+pub cut-self : {q s : List ℕ} → q ≡ s → 2 ≤ length q → Cut q s
+cut-self {q} e h = record { rest = []; split = sym e ∙ sym (append-nil q); two = h }
 
 cut-trans : {p q s : List ℕ} → Cut p q → Cut q s → Cut p s
 cut-trans {p} c e = record {

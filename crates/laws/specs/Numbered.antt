@@ -168,14 +168,15 @@ pub pigeon : (n : ℕ) (l : List ℕ) → Fresh l → ((x : ℕ) → Mem x l →
 pigeon zero [] f h = omega arith
 pigeon zero (x ∷ l) f h = let k = h x (here refl) in absurd (omega arith)
 pigeon (suc n) l f h =
-    let a = one-off n l f in
-    let b = pigeon n (keep (λ x. not (eqb n x)) l) (keep-fresh (λ x. not (eqb n x)) l f)
-    (λ x m. let r = keep-find (λ x. not (eqb n x)) l m in let lt = h x (r .0) in let ne = eqb-false n x
-    (not-true (eqb n x) (r .1)) in lower x lt ne) in
-    omega arith
+    let b = pigeon n (keep (λ x. not (eqb n x)) l) (keep-fresh (λ x. not (eqb n x)) l f) others in
+    omega (arith, one-off n l f)
   where
-    lower : (x : ℕ) → x < suc n → (n ≡ x → ⊥) → x < n
-    lower x a b = let c : x ≡ n → ⊥ = λ e. b (sym e) in omega (arith, c)
+    others : (x : ℕ) → Mem x (keep (λ x. not (eqb n x)) l) → x < n
+    others x m =
+        let r = keep-find (λ x. not (eqb n x)) l m in
+        let lt = h x (r .0) in
+        let ne : x ≡ n → ⊥ = λ e. eqb-false n x (not-true (eqb n x) (r .1)) (sym e) in
+        omega (arith, ne)
 
 pub count-small : (ts : List Token) → Valid ts → (p : List ℕ) → length (labels (nodes ts) p) ≤ 256
 count-small ts v p = pigeon 256 (labels (nodes ts) p) (labels-fresh (nodes ts) p (nodes-fresh ts)) (labels-small ts v p)

@@ -9,7 +9,6 @@ use lib.Bits.{bitXor, bitAnd, bitOr, xor-lt, and-shr, and-mod, or-shr, or-mod, s
 use lib.Dec.{eqb, lit<, ltb, leb}
 use lib.Pow.{pow-add, shl-shr, shr-shr}
 use borrow.Author.Tests.{eqb-true, eqb-false, ltb-true, leb-true, ltb-false}
-use Rattle.spec.specs.Match.{one}
 use Rattle.laws.specs.Tests.{Tested, either, or-cases, and-l, and-r}
 
 -- ---- bits

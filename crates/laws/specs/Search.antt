@@ -1,22 +1,19 @@
--- The search by 64-bit words of marks finds what `firstFrom` finds. Assumes nothing.
-use mathlib.Core.Path.{_≡_, refl, sym, ap, ap₂, _∙_, subst}
+-- Marks, 64 to a word: what a mark more changes. Assumes nothing.
+use mathlib.Core.Path.{_≡_, sym, ap, ap₂, _∙_, subst}
 use mathlib.Core.Logic.{inl, inr}
-use mathlib.Core.Bool.{Bool, false, _||_, or-assoc, or-false}
-use mathlib.Core.List.{List, [], _∷_, List·Memᴰ as Mem, List·Memᴰ·head as here, List·Memᴰ·tail as there}
-use Prim.Native.Nat.{ℕ, zero, suc, _+_, _*_, _/_, _%_, _^_, _-_, _<_, max}
+use mathlib.Core.Bool.{Bool, false, _||_, or-false}
+use mathlib.Core.List.{List}
+use Prim.Native.Nat.{ℕ, suc, _+_, _*_, _/_, _%_, _^_, _-_, _<_}
 use native.Mathlib.Nat.{div-lt-iff-lt-mul, one-mul}
 use native.Mathlib.Omega.{arith}
-use lib.Bits.{bitXor, bitOr, xor-lt}
+use lib.Bits.{bitOr}
 use lib.Dec.{eqb, ltb}
 use lib.ListN.{length, getD, set}
 use lib.Pow.{pow-pos, shl-shr, pow-lt}
 use lib.Seq.{getD-set-same, getD-set-other}
 use borrow.Author.Tests.{eqb-true, eqb-false, eq-eqb, ltb-true, ltb-false}
-use Rattle.spec.specs.Lists.{any}
-use Rattle.spec.specs.Token.{off}
 use Rattle.laws.specs.Tests.{Tested, either, or-r, no-true, iff-eq}
-use Rattle.laws.specs.Xor.{xor-assoc, xor-in-block}
-use Rattle.laws.specs.Perm.{bit, bit-lt, bit-or, bit-shl-low, xorPerm, perm-bit}
+use Rattle.laws.specs.Perm.{bit, bit-lt, bit-or, bit-shl-low}
 
 -- ---- marks, 64 to a word
 
@@ -89,61 +86,3 @@ mark-is M s t h = go (either (eqb (t / 64) (s / 64)))
         let off : eqb t s ≡ false = no-true (eqb t s) (λ a. ne (ap (λ (z : ℕ). z / 64) (eqb-true t s a))) in
         ap (λ (z : ℕ). eqb (bit z (t % 64)) 1) (getD-set-other M (s / 64) (t / 64) new 0 ne)
         ∙ sym (ap (λ (c : Bool). eqb (bit (getD M (t / 64) 0) (t % 64)) 1 || c) off ∙ or-false _)
-
--- ---- 64 slots at once: bit i says that some label falls on a marked slot
-
-unfoldable pub clashWord : List ℕ → ℕ → ℕ → ℕ → ℕ
-unfolding xorPerm
-clashWord M B w d = xorPerm (getD M (B * 4 + bitXor w (d / 64)) 0) (d % 64)
-
-unfoldable pub clashes : List ℕ → ℕ → ℕ → ℕ → List ℕ → ℕ → ℕ
-unfolding clashWord
-clashes M B w l1 [] acc = acc
-clashes M B w l1 (l ∷ ls) acc = clashes M B w l1 ls (bitOr acc (clashWord M B w (bitXor l1 l)))
-
-pub clash-bit : (M : List ℕ) (B w i d : ℕ) → w < 4 → i < 64 → d < 256
-    → eqb (bit (clashWord M B w d) i) 1 ≡ marked M (bitXor (B * 256 + (w * 64 + i)) d)
-unfolding clashWord marked
-clash-bit M B w i d hw hi hd =
-    ap (λ (z : ℕ). eqb z 1) (perm-bit (getD M (B * 4 + bitXor w (d / 64)) 0) (d % 64) i low hi)
-    ∙ sym (ap (λ (z : ℕ). eqb (bit (getD M (z / 64) 0) (z % 64)) 1) (xor-in-block B w i d hw hi hd)
-    ∙ ap₂ (λ (x y : ℕ). eqb (bit (getD M x 0) y) 1) (quot (bitXor w (d / 64)) (bitXor i (d % 64)) i-lt)
-    (rem (bitXor w (d / 64)) (bitXor i (d % 64)) i-lt))
-  where
-    low : d % 64 < 64
-    low = omega arith
-
-    i-lt : bitXor i (d % 64) < 64
-    i-lt = xor-lt 6 i (d % 64) hi low
-
-    quot : (x y : ℕ) → y < 64 → (B * 256 + (x * 64 + y)) / 64 ≡ B * 4 + x
-    quot x y h = omega arith
-
-    rem : (x y : ℕ) → y < 64 → (B * 256 + (x * 64 + y)) % 64 ≡ y
-    rem x y h = omega arith
-
-bit-or-test : (a b i : ℕ) → eqb (bit (bitOr a b) i) 1 ≡ (eqb (bit a i) 1 || eqb (bit b i) 1)
-bit-or-test a b i = ap (λ (z : ℕ). eqb z 1) (bit-or a b i) ∙ go (bit a i) (bit b i) (bit-lt a i) (bit-lt b i)
-  where
-    go : (x y : ℕ) → x < 2 → y < 2 → eqb (max x y) 1 ≡ (eqb x 1 || eqb y 1)
-    go zero zero p q = refl
-    go zero (suc zero) p q = refl
-    go (suc zero) zero p q = refl
-    go (suc zero) (suc zero) p q = refl
-    go zero (suc (suc y)) p q = absurd (omega arith)
-    go (suc zero) (suc (suc y)) p q = absurd (omega arith)
-    go (suc (suc x)) y p q = absurd (omega arith)
-
-pub clashes-is : (M : List ℕ) (B w i l1 : ℕ) (ls : List ℕ) (acc : ℕ) → w < 4 → i < 64 → l1 < 256 → ((l : ℕ) → Mem l ls → l < 256)
-    → eqb (bit (clashes M B w l1 ls acc) i) 1 ≡ (eqb (bit acc i) 1 || any (λ l. marked M (bitXor (bitXor (B * 256 + (w * 64 + i)) l1) l)) ls)
-unfolding clashes any
-clashes-is M B w i l1 [] acc hw hi h1 small = sym (or-false _)
-clashes-is M B w i l1 (l ∷ ls) acc hw hi h1 small =
-    clashes-is M B w i l1 ls (bitOr acc (clashWord M B w (bitXor l1 l))) hw hi h1 (λ k m. small k (there m))
-    ∙ ap (λ (c : Bool). c || rest) (bit-or-test acc (clashWord M B w (bitXor l1 l)) i ∙ ap (λ (c : Bool). eqb (bit acc i) 1 || c)
-    (clash-bit M B w i (bitXor l1 l) hw hi (xor-lt 8 l1 l h1 (small l (here refl))) ∙ ap (marked M)
-    (sym (xor-assoc (B * 256 + (w * 64 + i)) l1 l))))
-    ∙ or-assoc (eqb (bit acc i) 1) (marked M (bitXor (bitXor (B * 256 + (w * 64 + i)) l1) l)) rest
-  where
-    rest : Bool
-    rest = any (λ k. marked M (bitXor (bitXor (B * 256 + (w * 64 + i)) l1) k)) ls

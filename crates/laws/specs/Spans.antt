@@ -20,7 +20,6 @@ use Rattle.spec.specs.Theorems.{Looking}
 use Rattle.running.specs.Joined.{bytesOf-token}
 use Rattle.laws.specs.Tests.{clash, Tested, either, any-find, any-none}
 use Rattle.laws.specs.Tokens.{rising-low}
-use Rattle.laws.specs.Placed.{above}
 use Rattle.laws.specs.Reads.{offset-at}
 
 -- ---- ids that no token has

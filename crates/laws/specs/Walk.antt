@@ -3,14 +3,13 @@
 use mathlib.Core.Path.{_≡_, refl, sym, ap, ap₂, _∙_, subst}
 use mathlib.Core.Logic.{_⊎_, inl, inr}
 use mathlib.Core.Bool.{Bool, true, false, not, _&&_, cond}
-use mathlib.Core.List.{List, [], _∷_, _++_, append-nil, append-assoc, head-eq-of-cons-eq, nil≢cons, List·Memᴰ as Mem}
+use mathlib.Core.List.{List, [], _∷_, _++_, append-assoc, head-eq-of-cons-eq, nil≢cons, List·Memᴰ as Mem}
 use Prim.Native.Nat.{ℕ, zero, suc, _+_, _*_, _≤_, _<_}
 use native.Mathlib.Numerals.{add-one}
 use native.Mathlib.Omega.{arith}
 use lib.Bits.{bitXor}
 use lib.Dec.{eqb, lit<, leb}
-use lib.ListN.{length, take, getD, length-append, drop, take-append-drop}
-use lib.Seq.{take-all, take-at, take-append-le}
+use lib.ListN.{length, take, getD, length-append}
 use borrow.Author.Tests.{eqb-true, eq-eqb, leb-true, leb-false, ne-eqb}
 use Rattle.spec.specs.Lists.{has, Bytes}
 use Rattle.spec.specs.Token.{Token, idOf}
@@ -21,7 +20,7 @@ use Rattle.spec.specs.Memory.{Memory, Loaded}
 use Rattle.spec.specs.Match.{baseIn, idIn, goes, Walk, noWalk, onto, follow, enter, walkOn}
 use Rattle.laws.specs.Tests.{clash, Tested, either, and-r, has-mem, mem-has, mem-pos}
 use Rattle.laws.specs.Tokens.{TokenOf, id-cases, id-pos, id-low}
-use Rattle.laws.specs.Nodes.{Cut, node-is, node-label}
+use Rattle.laws.specs.Nodes.{Cut, cut-length, cut-append, cut-within, cut-all, cut-self, node-is, node-label}
 use Rattle.laws.specs.Step.{placed, base-pos, word-base, word-id, word-pos, step-word, step-goes}
 use Rattle.laws.specs.Reads.{root-at, table-at}
 
@@ -51,28 +50,6 @@ pub record Passed (ts : List Token) (p : List ℕ) (i n : ℕ) : Type 0 where
   pub none : i ≡ 0 → n ≡ 0
   pub token : 1 ≤ i → (t : Token) × Mem t ts × Cut (t .bytes) p × (t .id ≡ i) × (length (t .bytes) ≡ n)
   pub longest : (t : Token) → Mem t ts → Cut (t .bytes) p → length (t .bytes) ≤ n
-
-pub cut-length : {q s : List ℕ} → Cut q s → length q ≤ length s
-cut-length {q} c = omega (arith, simp length-append at (ap length (c .split)))
-
-cut-append : {q s : List ℕ} (r : List ℕ) → Cut q s → Cut q (s ++ r)
-cut-append {q} r c =
-    record { rest = c .rest ++ r; split = ap (λ (z : List ℕ). z ++ r) (c .split) ∙ append-assoc q (c .rest) r; two = c .two }
-
--- what begins p ++ r and is no longer than p begins p
-cut-within : {q : List ℕ} (p r : List ℕ) → Cut q (p ++ r) → length q ≤ length p → Cut q p
-cut-within {q} p r c h = record {
-  rest = drop (length q) p;
-  split = sym (take-append-drop (length q) p) ∙ ap (λ (z : List ℕ). z ++ drop (length q) p) same-start;
-  two = c .two;
-}
-  where
-    same-start : take (length q) p ≡ q
-    same-start = sym (take-append-le (length q) p r h) ∙ ap (take (length q)) (c .split) ∙ take-at q (c .rest) (length q) refl
-
--- what begins s and is as long is s
-pub cut-all : {q s : List ℕ} → Cut q s → length s ≤ length q → q ≡ s
-cut-all {q} {s} c h = sym (sym (take-all (length q) s h) ∙ ap (take (length q)) (c .split) ∙ take-at q (c .rest) (length q) refl)
 
 pub passed-start : (ts : List Token) (a : ℕ) → Passed ts (a ∷ []) 0 0
 passed-start ts a = record {
@@ -117,19 +94,7 @@ module _ {ts : List Token} (v : Valid ts) where
       go false e (inl z) = absurd (clash (eq-eqb (idOf ts q) 0 z) e)
       go false e (inr (t, m, d, j)) = record {
         none = λ z. absurd (clash (eq-eqb (idOf ts q) 0 z) e);
-        token =
-            λ l. (
-              t,
-              m,
-              record {
-                rest = [];
-                split = sym d ∙ sym (append-nil (t .bytes));
-                two =
-                    (let x = ap length d in omega (arith, len));
-              },
-              sym j,
-              ap length d ∙ len,
-            );
+        token = λ l. (t, m, cut-self d (omega (arith, ap length d, len)), sym j, ap length d ∙ len);
         longest = λ u n c. omega (arith, cut-length c, len);
       }
 

@@ -5,7 +5,7 @@ use Prim.Native.Nat.{ℕ, zero, suc, _+_, _*_, _/_, _%_, _<_}
 use native.Mathlib.Nat.{mod-lt, zero-lt-suc, div-add-mod'}
 use native.Mathlib.Omega.{arith}
 use lib.Arith.{bin-ind}
-use lib.Bits.{bitXor, differ, xor-step, xor-shr, xor-mod, xor-zero-r, xor-comm, xor-block}
+use lib.Bits.{bitXor, differ, xor-step, xor-shr, xor-mod, xor-zero-r, xor-comm}
 
 digit : (x y : ℕ) → x < 2 → y < 2 → differ x (bitXor x y) ≡ y
 digit zero y p q = refl
@@ -69,33 +69,3 @@ xor-assoc = bin-ind (λ (n : ℕ). (b c : ℕ) → bitXor (bitXor n b) c ≡ bit
         ∙ ap₂ (λ (x y : ℕ). bitXor x (c / 2) * 2 + differ y (c % 2)) (xor-shr n b 1) (xor-mod n b 1)
         ∙ ap₂ (λ (x y : ℕ). x * 2 + y) (ih (b / 2) (c / 2)) (digits-assoc (n % 2) (b % 2) (c % 2) (half n) (half b) (half c))
         ∙ sym (xor-step n (bitXor b c) ∙ ap₂ (λ (x y : ℕ). bitXor (n / 2) x * 2 + differ (n % 2) y) (xor-shr b c 1) (xor-mod b c 1))
-
--- the slot of word w and bit i, moved by d, stands in word w xor d / 64 at bit i xor d % 64
-pub xor-in-block : (B w i d : ℕ) → w < 4 → i < 64 → d < 256
-    → bitXor (B * 256 + (w * 64 + i)) d ≡ B * 256 + (bitXor w (d / 64) * 64 + bitXor i (d % 64))
-xor-in-block B w i d hw hi hd =
-    ap₂ bitXor left right
-    ∙ xor-block 6 (B * 4 + w) (d / 64) i (d % 64) hi low-lt
-    ∙ ap (λ (z : ℕ). z * 64 + bitXor i (d % 64)) inner
-    ∙ join (bitXor w (d / 64)) (bitXor i (d % 64))
-  where
-    left : B * 256 + (w * 64 + i) ≡ (B * 4 + w) * 64 + i
-    left = omega arith
-
-    right : d ≡ d / 64 * 64 + d % 64
-    right = omega arith
-
-    low-lt : d % 64 < 64
-    low-lt = omega arith
-
-    high-lt : d / 64 < 4
-    high-lt = omega arith
-
-    lead : d / 64 ≡ 0 * 4 + d / 64
-    lead = omega arith
-
-    inner : bitXor (B * 4 + w) (d / 64) ≡ B * 4 + bitXor w (d / 64)
-    inner = ap (bitXor (B * 4 + w)) lead ∙ xor-block 2 B 0 w (d / 64) hw high-lt ∙ ap (λ (z : ℕ). z * 4 + bitXor w (d / 64)) (xor-zero-r B)
-
-    join : (x y : ℕ) → (B * 4 + x) * 64 + y ≡ B * 256 + (x * 64 + y)
-    join x y = omega arith
