@@ -158,7 +158,7 @@ cr-alone = refl
 -- ── The walk gives the lines ─────────────────────────────────────────
 
 -- a line less a CR is its first bytes
-lessCR-le : (l : List ℕ) → length (lessCR l) ≤ length l
+pub lessCR-le : (l : List ℕ) → length (lessCR l) ≤ length l
 unfolding lessCR
 lessCR-le l = go (eqb (getD l (length l - 1) 0) cr)
   where
@@ -166,7 +166,7 @@ lessCR-le l = go (eqb (getD l (length l - 1) 0) cr)
     go true = let e = length-take-le (length l - 1) l (omega arith) in omega arith
     go false = le-refl (length l)
 
-lessCR-take : (l : List ℕ) → lessCR l ≡ take (length (lessCR l)) l
+pub lessCR-take : (l : List ℕ) → lessCR l ≡ take (length (lessCR l)) l
 unfolding lessCR
 lessCR-take l = go (eqb (getD l (length l - 1) 0) cr)
   where
@@ -187,7 +187,7 @@ withLF-le n s =
     let e = length-take n s in
     omega arith
 
-beforeLF-le : (s : List ℕ) → beforeLF s ≤ length s
+pub beforeLF-le : (s : List ℕ) → beforeLF s ≤ length s
 unfolding beforeLF
 beforeLF-le [] = le-refl 0
 beforeLF-le (b ∷ s) = go (eqb b lf) (beforeLF-le s)

@@ -1,0 +1,38 @@
+-- `line::next_line` meets its contract. Assumes nothing.
+use Rattle.line.proofs.Walk.{turn-none, found-in, once-in, turn-last, turn-line}
+use borrow.Author.Needs.{needs}
+use Rattle.line.proofs.next_line.Statement.{statement}
+use Rattle.line.proofs.next_line.Tie as tie
+
+returns : tie.Need-returns
+returns c = turn-none _ _ (c .if1 .taken)
+
+find-lf-requires : tie.Need-find-lf-requires
+find-lf-requires c κs = search needs
+
+less-cr-requires : tie.Need-less-cr-requires
+less-cr-requires c κs = found-in _ _ _ (c .before .if1 .left) (c .find-lf .ensures)
+
+returns-2 : tie.Need-returns-2
+returns-2 c = turn-last _ _ _ (c .before .before .before .if1 .left) (c .before .before .find-lf .ensures) _ (c .before .less-cr .ensures) (c .if2 .taken)
+
+less-cr-requires-2 : tie.Need-less-cr-requires-2
+less-cr-requires-2 c κs = once-in _ _ _ (c .before .before .before .if1 .left) (c .before .before .find-lf .ensures) _ (c .before .less-cr .ensures)
+
+add-t7 : tie.Need-add-t7
+add-t7 c = search needs
+
+returns-3 : tie.Need-returns-3
+returns-3 c = turn-line _ _ _ (c .before .before .before .before .if1 .left) (c .before .before .before .find-lf .ensures) _ (c .before .before .less-cr .ensures) (c .before .if2 .left) _ (c .less-cr2 .ensures)
+
+pub next-line-spec : {M : Type 1} → statement M
+next-line-spec =
+    tie.close
+    (tie.spec
+    returns
+    find-lf-requires
+    less-cr-requires
+    returns-2
+    less-cr-requires-2
+    add-t7
+    returns-3)

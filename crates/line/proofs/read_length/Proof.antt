@@ -1,0 +1,28 @@
+-- `line::read_length` meets its contract. Assumes nothing.
+use mathlib.Core.Path.{_≡_, refl, sym, ap, _∙_}
+use Rattle.spec.specs.Check.{given, pass}
+use Rattle.spec.specs.Digits.{digits}
+use Rattle.literal.specs.Answers.{numberOf}
+use borrow.Author.Needs.{needs}
+use Rattle.line.proofs.read_length.Statement.{statement}
+use Rattle.line.proofs.read_length.Tie as tie
+
+digits-requires : tie.Need-digits-requires
+digits-requires c κs = search needs
+
+enum-known-v : tie.Need-enum-known-v
+enum-known-v c = search needs
+
+enum-told : tie.Need-enum-told
+enum-told c = search needs
+
+returns : tie.Need-returns
+unfolding given
+returns c = rw (sym (c .before .before .digits .ensures) ∙ ap numberOf (c .enum-told .given .1))
+
+returns-2 : tie.Need-returns-2
+unfolding given
+returns-2 c = rw (sym (c .before .before .before .digits .ensures) ∙ ap numberOf (c .before .v .given .1))
+
+pub read-length-spec : {M : Type 1} → statement M
+read-length-spec = tie.close (tie.spec digits-requires enum-known-v enum-told returns returns-2)

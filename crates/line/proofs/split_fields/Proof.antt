@@ -1,0 +1,85 @@
+-- `line::split_fields` meets its contract. Assumes nothing.
+use mathlib.Core.Path.{_≡_, refl, sym, ap, _∙_}
+use native.Mathlib.Omega.{arith}
+use Rattle.line.specs.Answers.{spaceOf}
+use Rattle.line.proofs.Spaces.{first-lt, last-lt}
+use Rattle.line.proofs.Parts.{is-blank, no-first, no-last, leads, near, ends, found}
+use borrow.Author.Needs.{needs}
+use Rattle.line.proofs.split_fields.Statement.{statement}
+use Rattle.line.proofs.split_fields.Tie as tie
+
+is-blank-requires : tie.Need-is-blank-requires
+is-blank-requires c κs = search needs
+
+returns : tie.Need-returns
+returns c = (sym (is-blank _ (sym (c .before .is-blank .ensures) ∙ c .if1 .taken)), tt)
+
+first-space-requires : tie.Need-first-space-requires
+first-space-requires c κs = search needs
+
+enum-known-first : tie.Need-enum-known-first
+enum-known-first c = search needs
+
+enum-told : tie.Need-enum-told
+enum-told c = search needs
+
+returns-2 : tie.Need-returns-2
+returns-2 c = (sym (no-first _ (sym (c .before .before .before .before .is-blank .ensures) ∙ c .before .before .before .if1 .left) (sym (c .before .before .first-space .ensures) ∙ ap spaceOf (c .enum-told .given .1))), tt)
+
+last-space-requires : tie.Need-last-space-requires
+last-space-requires c κs = search needs
+
+enum-known-last : tie.Need-enum-known-last
+enum-known-last c = search needs
+
+enum-told-2 : tie.Need-enum-told-2
+enum-told-2 c = search needs
+
+returns-3 : tie.Need-returns-3
+returns-3 c = (sym (no-last _ (sym (c .before .before .before .before .before .before .before .before .is-blank .ensures) ∙ c .before .before .before .before .before .before .before .if1 .left) _ (sym (c .before .before .before .before .before .before .first-space .ensures) ∙ ap spaceOf (c .before .before .before .before .first .given .1)) (sym (c .before .before .last-space .ensures) ∙ ap spaceOf (c .enum-told2 .given .1))), tt)
+
+returns-4 : tie.Need-returns-4
+returns-4 c = (sym (leads _ (sym (c .before .before .before .before .before .before .before .before .before .before .is-blank .ensures) ∙ c .before .before .before .before .before .before .before .before .before .if1 .left) _ (sym (c .before .before .before .before .before .before .before .before .first-space .ensures) ∙ ap spaceOf (c .before .before .before .before .before .before .first .given .1)) _ (sym (c .before .before .before .before .last-space .ensures) ∙ ap spaceOf (c .before .before .last .given .1)) (c .if2 .taken)), tt)
+
+add-if3 : tie.Need-add-if3
+add-if3 c =
+    let h = first-lt _ _ (sym (c .before .before .before .before .before .before .before .before .first-space .ensures) ∙ ap spaceOf (c .before .before .before .before .before .before .first .given .1)) in
+    omega arith
+
+returns-5 : tie.Need-returns-5
+returns-5 c = (sym (near _ (sym (c .before .before .before .before .before .before .before .before .before .before .before .is-blank .ensures) ∙ c .before .before .before .before .before .before .before .before .before .before .if1 .left) _ (sym (c .before .before .before .before .before .before .before .before .before .first-space .ensures) ∙ ap spaceOf (c .before .before .before .before .before .before .before .first .given .1)) _ (sym (c .before .before .before .before .before .last-space .ensures) ∙ ap spaceOf (c .before .before .before .last .given .1)) (c .if3 .taken)), tt)
+
+add-if4 : tie.Need-add-if4
+add-if4 c =
+    let h = last-lt _ _ (sym (c .before .before .before .before .before .last-space .ensures) ∙ ap spaceOf (c .before .before .before .last .given .1)) in
+    omega arith
+
+returns-6 : tie.Need-returns-6
+returns-6 c = (sym (ends _ (sym (c .before .before .before .before .before .before .before .before .before .before .before .before .is-blank .ensures) ∙ c .before .before .before .before .before .before .before .before .before .before .before .if1 .left) _ (sym (c .before .before .before .before .before .before .before .before .before .before .first-space .ensures) ∙ ap spaceOf (c .before .before .before .before .before .before .before .before .first .given .1)) _ (sym (c .before .before .before .before .before .before .last-space .ensures) ∙ ap spaceOf (c .before .before .before .before .last .given .1)) (c .if4 .taken)), tt)
+
+returns-7 : tie.Need-returns-7
+returns-7 c = (
+  sym (found _ (sym (c .before .before .before .before .before .before .before .before .before .before .before .before .is-blank .ensures) ∙ c .before .before .before .before .before .before .before .before .before .before .before .if1 .left) _ (sym (c .before .before .before .before .before .before .before .before .before .before .first-space .ensures) ∙ ap spaceOf (c .before .before .before .before .before .before .before .before .first .given .1)) _ (sym (c .before .before .before .before .before .before .last-space .ensures) ∙ ap spaceOf (c .before .before .before .before .last .given .1)) (omega arith) (omega arith) (omega arith)),
+  (omega arith, omega arith, omega arith),
+)
+
+pub split-fields-spec : {M : Type 1} → statement M
+split-fields-spec =
+    tie.close
+    (tie.spec
+    is-blank-requires
+    returns
+    first-space-requires
+    enum-known-first
+    enum-told
+    returns-2
+    last-space-requires
+    enum-known-last
+    enum-told-2
+    returns-3
+    returns-4
+    add-if3
+    returns-5
+    add-if4
+    returns-6
+    returns-7)
