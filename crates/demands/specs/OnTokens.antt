@@ -7,40 +7,13 @@ use Prim.Native.Nat.{ℕ, zero, suc, pred}
 use lib.ListN.{length}
 use Rattle.spec.specs.Lists.{Bytes}
 use Rattle.spec.specs.Token.{Token, longest, properPrefix, undecided}
-use Rattle.spec.specs.Scan.{failed, scanned, scanAt, waiting, stuck, ran, runAt}
+use Rattle.spec.specs.Scan.{scanned, scanAt, ran, runAt}
 use Rattle.spec.specs.Memory.{Memory}
-use Rattle.spec.specs.Match.{nothing, found, matchOn, undecidedOn}
-use Rattle.spec.specs.Stream.{scanOn, runOn}
+use Rattle.spec.specs.Match.{matchOn, undecidedOn}
+use Rattle.spec.specs.Stream.{scanOn, runOn, scanOn-none, scanOn-some, runOn-waits, runOn-none, runOn-some}
 use Rattle.spec.specs.Theorems.{matchOf}
 use Rattle.running.specs.ScanLaws.{scan-none, scan-some}
 use Rattle.running.specs.RunLaws.{run-waits, run-none, run-some}
-
--- ---- the definitions on memory, case by case
-
-scanOn-none : (m : Memory) (pos b : ℕ) (s : List ℕ) → matchOn m (b ∷ s) ≡ nothing
-    → scanOn m pos 0 (b ∷ s) ≡ record { ids = []; end = failed pos b }
-unfolding scanOn
-scanOn-none m pos b s e = rw (e, scanOn)
-
-scanOn-some : (m : Memory) (pos b : ℕ) (s : List ℕ) (i n : ℕ) → matchOn m (b ∷ s) ≡ found i n
-    → scanOn m pos 0 (b ∷ s) ≡ scanned i (scanOn m (suc pos) (pred n) s)
-unfolding scanOn
-scanOn-some m pos b s i n e = rw (e, scanOn)
-
-runOn-waits : (m : Memory) (pos b : ℕ) (s : List ℕ) → undecidedOn m (b ∷ s) ≡ true
-    → runOn m pos 0 (b ∷ s) ≡ record { ids = []; stop = waiting pos (b ∷ s) }
-unfolding runOn
-runOn-waits m pos b s e = rw (e, runOn)
-
-runOn-none : (m : Memory) (pos b : ℕ) (s : List ℕ) → undecidedOn m (b ∷ s) ≡ false → matchOn m (b ∷ s) ≡ nothing
-    → runOn m pos 0 (b ∷ s) ≡ record { ids = []; stop = stuck pos b }
-unfolding runOn
-runOn-none m pos b s d e = rw (d, runOn) (rw e)
-
-runOn-some : (m : Memory) (pos b : ℕ) (s : List ℕ) (i n : ℕ) → undecidedOn m (b ∷ s) ≡ false → matchOn m (b ∷ s) ≡ found i n
-    → runOn m pos 0 (b ∷ s) ≡ ran i (runOn m (suc pos) (pred n) s)
-unfolding runOn
-runOn-some m pos b s i n d e = rw (d, runOn) (rw e)
 
 -- ---- memory that matches as the tokens do
 

@@ -1,6 +1,7 @@
 -- The running encoder on any memory and any record. Document 01, "The running encoder", "Records" (Stream) and the table's place
 -- "stream call". On loaded memory the calls are those of the plain stream: that is demand 3, and nothing here says so. Assumes nothing.
-use mathlib.Core.Bool.{Bool, true, false, _&&_, _||_}
+use mathlib.Core.Path.{_≡_}
+use mathlib.Core.Bool.{Bool, true, false, _||_}
 use mathlib.Core.Option.{Option, none, some}
 use mathlib.Core.List.{List, [], _∷_, _++_}
 use Prim.Native.Nat.{ℕ, zero, suc, pred, _+_, _-_}
@@ -156,3 +157,27 @@ unfolding tooShort callRefusal goesThrough
 callOn m r c = elim (tooShort m) [
     true ↦ unchanged r (bare 1)
   | false ↦ orElse (callRefusal r c) r (goesThrough m r c) ]
+
+-- ---- the equations of the scan and the running form, case by case
+
+module _ (m : Memory) (pos b : ℕ) (s : List ℕ) where
+  pub scanOn-none : matchOn m (b ∷ s) ≡ nothing → scanOn m pos 0 (b ∷ s) ≡ record { ids = []; end = failed pos b }
+  unfolding scanOn
+  scanOn-none e = rw (e, scanOn)
+
+  pub scanOn-some : (i n : ℕ) → matchOn m (b ∷ s) ≡ found i n → scanOn m pos 0 (b ∷ s) ≡ scanned i (scanOn m (suc pos) (pred n) s)
+  unfolding scanOn
+  scanOn-some i n e = rw (e, scanOn)
+
+  pub runOn-waits : undecidedOn m (b ∷ s) ≡ true → runOn m pos 0 (b ∷ s) ≡ record { ids = []; stop = waiting pos (b ∷ s) }
+  unfolding runOn
+  runOn-waits e = rw (e, runOn)
+
+  pub runOn-none : undecidedOn m (b ∷ s) ≡ false → matchOn m (b ∷ s) ≡ nothing → runOn m pos 0 (b ∷ s) ≡ record { ids = []; stop = stuck pos b }
+  unfolding runOn
+  runOn-none d e = rw (d, runOn) (rw e)
+
+  pub runOn-some : (i n : ℕ) → undecidedOn m (b ∷ s) ≡ false → matchOn m (b ∷ s) ≡ found i n
+      → runOn m pos 0 (b ∷ s) ≡ ran i (runOn m (suc pos) (pred n) s)
+  unfolding runOn
+  runOn-some i n d e = rw (d, runOn) (rw e)
