@@ -1,8 +1,8 @@
 -- On loaded memory an encoding is the scan, cut where the output is full: the theorems `encoding-is-scan` and `encoding-is-cut`.
 -- Assumes nothing.
-use mathlib.Core.Path.{_≡_, refl, sym, ap, _∙_}
+use mathlib.Core.Path.{_≡_, refl, sym, ap, ap₂, _∙_}
 use mathlib.Core.Logic.{inl, inr}
-use mathlib.Core.Bool.{cond}
+use mathlib.Core.Bool.{Bool, true, _&&_, cond}
 use mathlib.Core.Option.{Option, none, some}
 use mathlib.Core.List.{List, [], _∷_, List·Memᴰ as Mem}
 use Prim.Native.Nat.{ℕ, zero, suc, _+_, _≤_, _<_, pred}
@@ -11,8 +11,8 @@ use native.Mathlib.Omega.{arith}
 use lib.Dec.{leb}
 use lib.ListN.{length, take, length-append}
 use borrow.Author.Tests.{leb-true, leb-false, le-leb, lt-leb}
-use Rattle.spec.specs.Lists.{Bytes}
-use Rattle.spec.specs.Token.{Token, longest, joined}
+use Rattle.spec.specs.Lists.{all, Bytes}
+use Rattle.spec.specs.Token.{Token, longest, joined, present}
 use Rattle.spec.specs.Scan.{Scan, scanned, scanAt, scan, done}
 use Rattle.spec.specs.Memory.{Memory, Loaded}
 use Rattle.spec.specs.Match.{matchOn, nothing, found}
@@ -21,8 +21,8 @@ use Rattle.spec.specs.Encode as encode
 use Rattle.spec.specs.Theorems.{matchOf, encodeEnd, EncodingIsScan, EncodingIsCut}
 use Rattle.running.specs.Longest.{longest-iff}
 use Rattle.running.specs.Joined.{joined-cons, joined-nil}
-use Rattle.running.specs.ScanLaws.{nowhere, scan-none, scan-some}
-use Rattle.laws.specs.Tests.{Tested, either}
+use Rattle.running.specs.ScanLaws.{ids-present, nowhere, scan-none, scan-some}
+use Rattle.laws.specs.Tests.{Tested, either, and-l, and-r}
 use Rattle.laws.specs.Matching.{matching}
 
 -- ---- the equations of `encodeAt`
@@ -124,3 +124,20 @@ encoding-is-cut m ts L s small n h =
     encode-cut L s 0 0 n small ∙ cut-full ts 0 n (scan ts s) h
     ∙ ap (λ (z : ℕ). record { ids = take n (scan ts s .ids); end = encode.full z })
     (zero-add (length (joined ts (take n (scan ts s .ids)))))
+
+all-take : {A : Type 0} (f : A → Bool) (n : ℕ) (l : List A) → all f l ≡ true → all f (take n l) ≡ true
+unfolding all
+all-take f zero l e = refl
+all-take f (suc n) [] e = refl
+all-take f (suc n) (x ∷ l) e = ap₂ _&&_ (and-l (f x) (all f l) e) (all-take f n l (and-r (f x) (all f l) e))
+
+-- every id handed out has a token
+pub encoding-present : {m : Memory} {ts : List Token} → Loaded m ts → (s : List ℕ) → Bytes s → (n : ℕ)
+    → all (present ts) (encoding m n s .ids) ≡ true
+encoding-present {m} {ts} L s small n = go (either (leb (length (scan ts s .ids)) n))
+  where
+    go : Tested (leb (length (scan ts s .ids)) n) → all (present ts) (encoding m n s .ids) ≡ true
+    go (inl e) = rw (encoding-is-scan m ts L s small n (leb-true (length (scan ts s .ids)) n e)) (ids-present ts (L .valid) s)
+    go (inr e) =
+        rw (encoding-is-cut m ts L s small n (leb-false (length (scan ts s .ids)) n e))
+        (all-take (present ts) n (scan ts s .ids) (ids-present ts (L .valid) s))

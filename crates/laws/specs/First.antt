@@ -1,5 +1,4 @@
 -- The smallest number that passes a test, and how a search for it may go. Assumes nothing.
--- ---- the search finds the smallest
 use mathlib.Core.Path.{_≡_, refl, sym, ap, ap₂, _∙_}
 use mathlib.Core.Logic.{inl, inr}
 use mathlib.Core.Bool.{Bool, true, false, cond}
@@ -10,6 +9,8 @@ use lib.Dec.{eqb}
 use borrow.Author.Tests.{eqb-true, eqb-false}
 use Rattle.spec.specs.Layout.{firstFrom}
 use Rattle.laws.specs.Tests.{Tested, either}
+
+-- ---- the search finds the smallest
 
 pub first-passes : (f : ℕ → Bool) (n s : ℕ) → f (s + n) ≡ true → f (firstFrom f n s) ≡ true
 unfolding firstFrom

@@ -75,9 +75,13 @@ unfolding idOf
 id-snoc [] t p low = refl
 id-snoc (u ∷ ts) t p low = go (same p (u .bytes)) (id-snoc ts t p (λ w m. low w (there m)))
   where
-    go : (c : Bool) → idOf (ts ++ (t ∷ [])) p ≡ cond (eqb (idOf ts p) 0) (cond (same p (t .bytes)) (t .id) 0) (idOf ts p)
-        → cond c (u .id) (idOf (ts ++ (t ∷ [])) p) ≡ cond (eqb (cond c (u .id) (idOf ts p)) 0) (cond (same p (t .bytes)) (t .id) 0) (cond c (u .id) (idOf ts p))
+    -- the id i, or that of t where i is 0
+    orLater : ℕ → ℕ
+    orLater i = cond (eqb i 0) (cond (same p (t .bytes)) (t .id) 0) i
+
+    go : (c : Bool) → idOf (ts ++ (t ∷ [])) p ≡ orLater (idOf ts p)
+        → cond c (u .id) (idOf (ts ++ (t ∷ [])) p) ≡ orLater (cond c (u .id) (idOf ts p))
     go true r =
-        sym (ap (λ (c : Bool). cond c (cond (same p (t .bytes)) (t .id) 0) (u .id))
-        (ne-eqb (u .id) 0 (λ z. let k = low u (here refl) in omega arith)))
+        let ne : eqb (u .id) 0 ≡ false = ne-eqb (u .id) 0 (λ z. omega (arith, low u (here refl))) in
+        sym (ap (λ (c : Bool). cond c (cond (same p (t .bytes)) (t .id) 0) (u .id)) ne)
     go false r = r

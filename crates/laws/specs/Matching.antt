@@ -145,7 +145,8 @@ module _ {m : Memory} {ts : List Token} (L : Loaded m ts) (a : ℕ) (s : List �
           missing u k b = omega (arith, id-pos (a ∷ []) (id-low ts (L .valid)) k (one-byte (u .bytes) a s (length-one u k b) b))
       go (inr (t, k, e, j)) =
           let l : length (t .bytes) ≡ 1 = ap length e in
-          let is-longest : IsLongest ts (a ∷ s) t = (k, (s, ap (λ (z : List ℕ). z ++ s) (sym e)), λ u i b. omega (arith, length-one u i b)) in
+          let is-longest : IsLongest ts (a ∷ s) t =
+          (k, (s, ap (λ (z : List ℕ). z ++ s) (sym e)), λ u i b. omega (arith, length-one u i b)) in
           rw j (one-found (t .id) (id-low ts (L .valid) t k) ∙ ap (found (t .id)) (sym l)
           ∙ ap matchOf (sym (longest-iff ts (L .valid) (a ∷ s) t .1 is-longest)))
 

@@ -197,7 +197,11 @@ xorPerm w d =
     maybe 0x00000000ffffffff 32 d (maybe 0x0000ffff0000ffff 16 d (maybe 0x00ff00ff00ff00ff 8 d
     (maybe 0x0f0f0f0f0f0f0f0f 4 d (maybe 0x3333333333333333 2 d (maybe 0x5555555555555555 1 d w)))))
 
-all-moved : allBelow 64 (λ d. allBelow 64 (λ i. eqb (moved 1 d (moved 2 d (moved 4 d (moved 8 d (moved 16 d (moved 32 d i)))))) (bitXor i d))) ≡ true
+-- where the six stages take bit i from
+abbrev moves : ℕ → ℕ → ℕ
+moves d i = moved 1 d (moved 2 d (moved 4 d (moved 8 d (moved 16 d (moved 32 d i)))))
+
+all-moved : allBelow 64 (λ d. allBelow 64 (λ i. eqb (moves d i) (bitXor i d))) ≡ true
 unfolding allBelow moved
 all-moved = refl
 
@@ -221,7 +225,5 @@ perm-bit w d i hd hi =
     ∙ maybe-bit 0x0f0f0f0f0f0f0f0f 4 d _ i3 m2-ok h3
     ∙ maybe-bit 0x3333333333333333 2 d _ i2 m1-ok h2
     ∙ maybe-bit 0x5555555555555555 1 d w i1 m0-ok h1
-    ∙ ap (bit w) (eqb-true (moved 1 d i1) (bitXor i d)
-    (below 64 (λ k. eqb (moved 1 d (moved 2 d (moved 4 d (moved 8 d (moved 16 d (moved 32 d k)))))) (bitXor k d))
-    (below 64 (λ c. allBelow 64
-    (λ k. eqb (moved 1 c (moved 2 c (moved 4 c (moved 8 c (moved 16 c (moved 32 c k)))))) (bitXor k c))) all-moved d hd) i hi))
+    ∙ ap (bit w) (eqb-true (moves d i) (bitXor i d) (below 64 (λ k. eqb (moves d k) (bitXor k d))
+    (below 64 (λ c. allBelow 64 (λ k. eqb (moves c k) (bitXor k c))) all-moved d hd) i hi))

@@ -7,19 +7,18 @@ use mathlib.Core.List.{List·Memᴰ·cases-cons as cases-cons}
 use Prim.Native.Nat.{ℕ, suc, _+_, _-_, _≤_, _<_}
 use native.Mathlib.Numerals.{add-one}
 use native.Mathlib.Omega.{arith}
-use lib.Dec.{eqb, ltb, leb}
+use lib.Dec.{eqb, lit<, ltb, leb}
 use lib.ListN.{length, take, getD, length-append, replicate, drop}
 use lib.Seq.{take-at, drop-append-add}
 use borrow.Author.Tests.{eqb-true, eqb-false, eq-eqb, ltb-true, ne-eqb, ltb-false, le-leb, lt-ltb, le-ltb}
 use Rattle.spec.specs.Lists.{each}
 use Rattle.spec.specs.Token.{Token, bytesOf, present}
 use Rattle.spec.specs.Valid.{Rising, Valid}
-use Rattle.spec.specs.Memory.{lengthBefore, blobBytes}
+use Rattle.spec.specs.Memory.{Memory, lengthBefore, blobBytes, Loaded}
 use Rattle.spec.specs.Decode.{lookup}
 use Rattle.spec.specs.Theorems.{Looking}
-use Rattle.running.specs.Joined.{bytesOf-token}
+use Rattle.running.specs.Joined.{bytesOf-token, rising-above}
 use Rattle.laws.specs.Tests.{clash, Tested, either, any-find, any-none}
-use Rattle.laws.specs.Tokens.{rising-low}
 use Rattle.laws.specs.Reads.{offset-at}
 
 -- ---- ids that no token has
@@ -105,7 +104,7 @@ spanned (t ∷ ts) low rise r i = go (either (ltb (t .id) i)) (either (eqb (t .i
           where
             at : (u ≡ t) ⊎ Mem u ts → ⊥
             at (inl k) = let z = ap (λ (w : Token). w .id) k in omega arith
-            at (inr k) = let z = rising-low ts (t .id) (rise .1) k in omega arith
+            at (inr k) = let z = rising-above (t .id) ts (rise .1) u k in omega arith
 
 -- "the last is the total"
 pub before-all : (ts : List Token) (i : ℕ) → ((t : Token) → Mem t ts → t .id < i) → lengthBefore ts i ≡ length (blobBytes ts)
@@ -125,6 +124,9 @@ before-le (t ∷ ts) i = go (either (ltb (t .id) i)) (before-le ts i) (unfold bl
         → length (blobBytes (t ∷ ts)) ≡ length (t .bytes) + length (blobBytes ts) → lengthBefore (t ∷ ts) i ≤ length (blobBytes (t ∷ ts))
     go (inl e) h l = let a = before-below ts i t (ltb-true (t .id) i e) in omega arith
     go (inr e) h l = let a = before-above ts i t (ltb-false (t .id) i e) in omega arith
+
+pub offset-total : {m : Memory} {ts : List Token} → Loaded m ts → getD (m .offsets) 65536 0 ≡ length (blobBytes ts)
+offset-total {ts} L = offset-at L 65536 (lit< tt) ∙ before-all ts 65536 (L .valid .id-fits)
 
 -- ---- the bytes of an id
 
@@ -171,8 +173,11 @@ looking m ts L i = go (either (ltb i 65536))
     E : ℕ
     E = getD (m .offsets) (i + 1) 0
 
-    go : Tested (ltb i 65536)
-        → cond (ltb i 65536 && (leb A E && (leb E (length (m .blob)) && leb (E - A) 255))) (take (E - A) (drop A (m .blob))) [] ≡ bytesOf ts i
+    -- the pair is in order, within the blob and not too far apart
+    good : Bool
+    good = leb A E && (leb E (length (m .blob)) && leb (E - A) 255)
+
+    go : Tested (ltb i 65536) → cond (ltb i 65536 && good) (take (E - A) (drop A (m .blob))) [] ≡ bytesOf ts i
     go (inr e) =
         let h = ltb-false i 65536 e in
         rw e (sym (absent-bytes ts i (λ t k q. let x = v .id-fits t k in omega arith)))
@@ -186,9 +191,10 @@ looking m ts L i = go (either (ltb i 65536))
         let t = before-le ts (suc i) in
         let r = L .blob-room in
         let d : E - A ≡ length (bytesOf ts i) = omega arith in
-        ap (λ (c : Bool). cond c (take (E - A) (drop A (m .blob))) [])
-        (ap₂ _&&_ e (ap₂ _&&_ (le-leb A E (omega arith))
-        (ap₂ _&&_ (le-leb E (length (m .blob)) (omega arith)) (le-leb (E - A) 255 (omega arith)))))
+        let in-order = le-leb A E (omega arith) in
+        let inside = le-leb E (length (m .blob)) (omega arith) in
+        let short = le-leb (E - A) 255 (omega arith) in
+        ap (λ (c : Bool). cond c (take (E - A) (drop A (m .blob))) []) (ap₂ _&&_ e (ap₂ _&&_ in-order (ap₂ _&&_ inside short)))
         ∙ ap₂ (λ (k j : ℕ). take k (drop j (m .blob))) d a
         ∙ ap (λ (k : List ℕ). take (length (bytesOf ts i)) (drop (lengthBefore ts i) k)) (L .blob)
         ∙ ap (take (length (bytesOf ts i))) (s .from)

@@ -2,13 +2,14 @@
 use mathlib.Core.Path.{_≡_, refl, sym, ap, _∙_, subst}
 use mathlib.Core.Logic.{_⊎_, inl, inr}
 use mathlib.Core.Bool.{Bool, true, false, cond}
-use mathlib.Core.List.{List, [], _∷_, List·Memᴰ as Mem, List·Memᴰ·head as here, List·Memᴰ·tail as there, List·Memᴰ·cases-cons as cases-cons}
-use mathlib.Core.List.{List·Memᴰ·not-nil as not-nil}
+use mathlib.Core.List.{List, [], _∷_, List·Memᴰ as Mem, List·Memᴰ·head as here, List·Memᴰ·tail as there}
 use Prim.Native.Nat.{ℕ, _≤_, _<_}
 use native.Mathlib.Omega.{arith}
 use Rattle.spec.specs.Lists.{same, Bytes}
 use Rattle.spec.specs.Token.{Token, idOf}
-use Rattle.spec.specs.Valid.{Rising, Valid}
+use Rattle.spec.specs.Valid.{Valid}
+use Rattle.running.specs.Longest.{bytes-tell}
+use Rattle.running.specs.Joined.{rising-above}
 use Rattle.laws.specs.Tests.{same-eq, same-refl}
 
 -- ---- bytes
@@ -46,18 +47,10 @@ id-pos {t} p low (there {x = y} {xs = ts} m) e = go (same p (y .bytes)) (id-pos 
     go true h = low y (here refl)
     go false h = h
 
-pub rising-low : (ts : List Token) (low : ℕ) → Rising low ts → {t : Token} → Mem t ts → low < t .id
-rising-low [] low r m = absurd (not-nil m)
-rising-low (u ∷ ts) low r {t} m = go (cases-cons m) (rising-low ts (u .id) (r .1))
-  where
-    go : (t ≡ u) ⊎ Mem t ts → (Mem t ts → u .id < t .id) → low < t .id
-    go (inl e) k = subst (λ (z : Token). low < z .id) (sym e) (r .0)
-    go (inr n) k = let a = k n in let b = r .0 in omega arith
-
 module _ (ts : List Token) (v : Valid ts) where
   -- no id is 0
   pub id-low : (t : Token) → Mem t ts → 1 ≤ t .id
-  id-low t m = let k = rising-low ts 0 (v .rising) m in omega arith
+  id-low t m = let k = rising-above 0 ts (v .rising) t m in omega arith
 
   pub id-bound : (p : List ℕ) → idOf ts p < 65536
   id-bound p = go (id-cases ts p)
@@ -65,3 +58,11 @@ module _ (ts : List Token) (v : Valid ts) where
       go : (idOf ts p ≡ 0) ⊎ TokenOf ts p → idOf ts p < 65536
       go (inl z) = omega arith
       go (inr h) = let k = v .id-fits (h .0) (h .1) in let e = h .3 in omega arith
+
+  -- the bytes of a token have its id
+  pub id-token : (t : Token) → Mem t ts → idOf ts (t .bytes) ≡ t .id
+  id-token t m = go (id-cases ts (t .bytes))
+    where
+      go : (idOf ts (t .bytes) ≡ 0) ⊎ TokenOf ts (t .bytes) → idOf ts (t .bytes) ≡ t .id
+      go (inl z) = let k = id-pos (t .bytes) id-low m refl in absurd (omega arith)
+      go (inr (u, n, e, j)) = j ∙ ap (λ (w : Token). w .id) (bytes-tell ts (v .distinct) u t n m e)

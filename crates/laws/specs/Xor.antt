@@ -1,11 +1,12 @@
--- Xor cancels, is associative, and goes by blocks. Assumes nothing.
--- ---- xor
+-- Xor cancels and is associative, and by a byte it stays in its block of 256. Assumes nothing.
 use mathlib.Core.Path.{_≡_, refl, sym, ap, ap₂, _∙_}
 use Prim.Native.Nat.{ℕ, zero, suc, _+_, _*_, _/_, _%_, _<_}
 use native.Mathlib.Nat.{mod-lt, zero-lt-suc, div-add-mod'}
 use native.Mathlib.Omega.{arith}
 use lib.Arith.{bin-ind}
 use lib.Bits.{bitXor, differ, xor-step, xor-shr, xor-mod, xor-zero-r, xor-comm}
+
+-- ---- cancelling
 
 digit : (x y : ℕ) → x < 2 → y < 2 → differ x (bitXor x y) ≡ y
 digit zero y p q = refl

@@ -10,7 +10,7 @@ use Rattle.spec.specs.Lists.{any, each}
 use Rattle.spec.specs.Token.{Token, bytesOf, joined, present}
 use Rattle.spec.specs.Valid.{Rising, Valid}
 
-rising-above : (low : ℕ) (ts : List Token) → Rising low ts → (t : Token) → Mem t ts → low < t .id
+pub rising-above : (low : ℕ) (ts : List Token) → Rising low ts → (t : Token) → Mem t ts → low < t .id
 rising-above low (x ∷ ts) r t (here p) = omega (arith, ap (λ (t : Token). t .id) p)
 rising-above low (x ∷ ts) r t (there m) = omega (arith, rising-above (x .id) ts (r .1) t m)
 
