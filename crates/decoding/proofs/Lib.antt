@@ -1,3 +1,4 @@
 -- Laws that the proofs share.
 pub mod Paste
 pub mod Decode
+pub mod Text

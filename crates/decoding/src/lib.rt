@@ -5,7 +5,7 @@ ghost use Prim.Native.Nat.{_+_, _-_, _<_, _≤_};
 ghost use lib.ListN.{length, take, drop};
 ghost use Rattle.spec.specs.Lists.{each, over};
 ghost use Rattle.spec.specs.Memory.{memory, tooShort};
-ghost use Rattle.spec.specs.Decode.{lookup as lookupOf, decodeOn};
+ghost use Rattle.spec.specs.Decode.{lookup as lookupOf, decodeOn, decodeTextOn};
 ghost use Rattle.decoding.specs.Answers.{answerOf, takenOf, Answered};
 ghost use Rattle.decoding.specs.Span.{spanOf};
 ghost use Rattle.decoding.specs.Measured.{tokens, Joined, Measured};
@@ -177,4 +177,28 @@ pub fn decode_bytes(
     let total = written(answer);
     write_tokens(offsets, blob, ids, count, out, total);
     answer
+}
+
+// The same, and then that the bytes are UTF-8: 29 has the first bad offset, and the bytes stand.
+pub fn decode_utf8(
+    single: &[i32],
+    offsets: &[u32],
+    blob: &[u8],
+    roots: &[u64],
+    table: &[u64],
+    ids: &[u32],
+    out: &mut [u8],
+) -> Decoded
+    ensures { λ r. ⌜ Answered (decodeTextOn
+        (memory (now (single .entry)) (now (offsets .entry)) (now (blob .entry)) (now (roots .entry)) (now (table .entry)))
+        (length (now (out .entry))) (now (ids .entry))) r (now (out .entry)) (now (out .exit)) ⌝ }
+{
+    let answer = decode_bytes(single, offsets, blob, roots, table, ids, out);
+    let Decoded::Whole { len } = answer else {
+        return answer;
+    };
+    let utf8::Text::BadAt(offset) = utf8::first_bad(&out[..len]) else {
+        return answer;
+    };
+    Decoded::NotUtf8 { len, offset }
 }
