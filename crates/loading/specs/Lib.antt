@@ -2,3 +2,4 @@
 pub mod Checks
 pub mod ByteStrings
 pub mod Accepted
+pub mod Left
