@@ -2,3 +2,4 @@
 mod Ranges
 mod Steps
 mod Cells
+mod Reading

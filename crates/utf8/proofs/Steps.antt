@@ -34,7 +34,7 @@ pub step-first : (s : List ℕ) (at : ℕ) (o : Option (List Range)) → at < le
     followed o (drop (at + 1) s) ≡ stepOf (drop at s)
 step-first s at o h e = rw (add-one at, drop-cons s at 0 h, step-cons (getD s at 0) (drop (suc at) s), e)
 
-ranges-tail : (n : ℕ) → ranges n 0x80 0xBF ≡ replicate n tail
+pub ranges-tail : (n : ℕ) → ranges n 0x80 0xBF ≡ replicate n tail
 ranges-tail zero = refl
 ranges-tail (suc n) = refl
 

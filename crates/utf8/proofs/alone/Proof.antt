@@ -1,0 +1,59 @@
+-- `utf8::alone` meets its contract: its three answers are the ways a byte can begin. Assumes nothing.
+use mathlib.Core.Path.{ap, _∙_, sym}
+use Rattle.utf8.specs.Means.{leadMeans, pushedAs}
+use Rattle.utf8.proofs.Reading.{start-none, start-whole, start-more}
+use borrow.Author.Needs.{needs}
+use Rattle.utf8.proofs.alone.Statement.{statement}
+use Rattle.utf8.proofs.alone.Tie as tie
+use Rattle.utf8.proofs.alone.Reads as reads
+use Rattle.utf8.proofs.alone.Lts as lts
+use Rattle.utf8.proofs.begun.Reads as begun-reads
+use Rattle.utf8.proofs.fresh.Reads as fresh-reads
+use Rattle.utf8.proofs.lead_of.Reads as lead-of-reads
+
+lead-of-requires : tie.Need-lead-of-requires
+lead-of-requires c κs = search needs
+
+enum-known-more : tie.Need-enum-known-more
+enum-known-more c = search needs
+
+enum-told : tie.Need-enum-told
+enum-told c = search needs
+
+fresh-requires : tie.Need-fresh-requires
+fresh-requires c κs = search needs
+
+returns : tie.Need-returns
+returns c =
+    rw (c .fresh .ensures)
+    (ap pushedAs (start-none (c .before .before .before .before .args .b) (ap leadMeans (sym (c .before .enum-told .given .1)) ∙ c .before .before .before .lead-of .ensures)))
+
+fresh-requires-2 : tie.Need-fresh-requires-2
+fresh-requires-2 c κs = search needs
+
+begun-requires : tie.Need-begun-requires
+begun-requires c κs = search needs
+
+returns-2 : tie.Need-returns-2
+returns-2 c =
+    let e = ap leadMeans (sym (c .before .before .before .more .given .1)) ∙ c .before .before .before .before .before .lead-of .ensures in
+    rw (c .fresh2 .ensures) (ap pushedAs (start-whole (c .before .before .before .before .before .before .args .b) _ _ _ e (c .before .if1 .taken)))
+
+returns-3 : tie.Need-returns-3
+returns-3 c =
+    let e = ap leadMeans (sym (c .before .before .before .more .given .1)) ∙ c .before .before .before .before .before .lead-of .ensures in
+    rw (c .begun .ensures) (ap pushedAs (start-more (c .before .before .before .before .before .before .args .b) _ _ _ e (c .before .if1 .left)))
+
+pub alone-spec : {M : Type 1} → statement M
+alone-spec =
+    tie.close
+    (tie.spec
+    lead-of-requires
+    enum-known-more
+    enum-told
+    fresh-requires
+    returns
+    fresh-requires-2
+    begun-requires
+    returns-2
+    returns-3)

@@ -1,0 +1,30 @@
+-- `utf8::finish` meets its contract. Assumes nothing.
+use mathlib.Core.Path.{ap, sym}
+use Rattle.utf8.specs.Reader.{finishOf}
+use Rattle.utf8.specs.Means.{pushedAs}
+use Rattle.utf8.proofs.Reading.{held-0, finish-some}
+use borrow.Author.Needs.{needs}
+use Rattle.utf8.proofs.finish.Statement.{statement}
+use Rattle.utf8.proofs.finish.Tie as tie
+use Rattle.utf8.proofs.finish.Reads as reads
+use Rattle.utf8.proofs.finish.Lts as lts
+use Rattle.utf8.proofs.fresh.Reads as fresh-reads
+
+fresh-requires : tie.Need-fresh-requires
+fresh-requires c κs = search needs
+
+returns : tie.Need-returns
+returns c =
+    let x = c .before .before .before .args .held in
+    rw (c .fresh .ensures) (ap (λ h. pushedAs (finishOf h)) (sym (held-0 (x .len) (x .first) (x .second) (x .third) (c .before .if1 .taken))))
+
+fresh-requires-2 : tie.Need-fresh-requires-2
+fresh-requires-2 c κs = search needs
+
+returns-2 : tie.Need-returns-2
+returns-2 c =
+    let x = c .before .before .before .args .held in
+    rw (c .fresh2 .ensures) (ap pushedAs (finish-some (x .len) (x .first) (x .second) (x .third) (c .before .if1 .left)))
+
+pub finish-spec : {M : Type 1} → statement M
+finish-spec = tie.close (tie.spec fresh-requires returns fresh-requires-2 returns-2)
