@@ -50,17 +50,16 @@ module _ (d : List ℕ) (at : ℕ) (s : List ℕ) (k : ℕ) (hd : at + k ≤ len
       ∙ drop-drop (m - (at + k)) (at + k) d
       ∙ ap (λ (a : ℕ). drop a d) e′
 
-  -- a second copy, which begins inside the first or at its end and goes on behind it, with the elements that follow there
-  pub paste-more : (j n : ℕ) → j ≤ k → k ≤ j + n → paste (paste d at s k) (at + j) (drop j s) n ≡ paste d at s (j + n)
-  paste-more j n jk kn =
-      let e : at + j + n ≡ at + (j + n) = omega arith in
-      rw (take-inside j jk, drop-behind (at + j + n) (omega arith), e, append-assoc (take at d), ← take-add)
+  -- a second copy, which begins at the end of the first, with the elements that follow there
+  pub paste-more : (n : ℕ) → paste (paste d at s k) (at + k) (drop k s) n ≡ paste d at s (k + n)
+  paste-more n =
+      let e : at + k + n ≡ at + (k + n) = omega arith in
+      rw (take-inside k (omega arith), drop-behind (at + k + n) (omega arith), e, append-assoc (take at d), ← take-add)
 
 -- the same of a part of s that starts at p
-pub paste-next : (d : List ℕ) (at : ℕ) (s : List ℕ) (p k j n : ℕ) → at + k ≤ length d → p + k ≤ length s → j ≤ k → k ≤ j + n
-    → paste (paste d at (drop p s) k) (at + j) (drop (p + j) s) n ≡ paste d at (drop p s) (j + n)
-paste-next d at s p k j n hd hs jk kn =
-    rw (← drop-drop j p s) (paste-more d at (drop p s) k hd (simp length-drop (omega arith)) j n jk kn)
+pub paste-next : (d : List ℕ) (at : ℕ) (s : List ℕ) (p k n : ℕ) → at + k ≤ length d → p + k ≤ length s
+    → paste (paste d at (drop p s) k) (at + k) (drop (p + k) s) n ≡ paste d at (drop p s) (k + n)
+paste-next d at s p k n hd hs = rw (← drop-drop k p s) (paste-more d at (drop p s) k hd (simp length-drop (omega arith)) n)
 
 -- one store takes the copy of k elements to the copy of k + 1
 pub one-store : (d : List ℕ) (at : ℕ) (s : List ℕ) (p k : ℕ) → at + k < length d → p + k < length s
@@ -118,4 +117,13 @@ placed d at s p len n end ln hs he hd =
     record {
       written = rw e (take-inside d at (drop p s) n (omega arith) hs′ len ln);
       kept = drop-behind d at (drop p s) n (omega arith) hs′ end he;
+    }
+
+-- cells from a later end on are untouched too
+pub placed-later : (d : List ℕ) (at : ℕ) (t : List ℕ) (end later : ℕ) (d′ : List ℕ) → end ≤ later → Placed d at t end d′ → Placed d at t later d′
+placed-later d at t end later d′ h p =
+    let e : later ≡ end + (later - end) = omega arith in
+    record {
+      written = p .written;
+      kept = rw (e, ← drop-drop (later - end) end d′, ← drop-drop (later - end) end d, p .kept);
     }

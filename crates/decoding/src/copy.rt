@@ -42,35 +42,28 @@ fn copy8(src: &[u8], start: usize, dst: &mut [u8], at: usize)
     dst[at + 7] = h;
 }
 
-// Eight bytes or more, by eights; the last eight may overlap those before.
-fn copy_blocks(src: &[u8], start: usize, len: usize, dst: &mut [u8], at: usize)
-    requires { ⌜ (start + len ≤ length (now src)) × (at + len ≤ length (now dst)) × (8 ≤ len) ⌝ }
-    ensures { λ r. ⌜ now (dst .exit) ≡ paste (now (dst .entry)) at (drop start (now (src .entry))) len ⌝ }
+// len bytes by eights, with up to seven more behind them.
+fn copy_eights(src: &[u8], start: usize, len: usize, dst: &mut [u8], at: usize)
+    requires { ⌜ (start + len + 8 ≤ length (now src)) × (at + len + 8 ≤ length (now dst)) ⌝ }
+    ensures { λ r. ⌜ Placed (now (dst .entry)) at (take len (drop start (now (src .entry)))) (at + len + 8) (now (dst .exit)) ⌝ }
 {
     let mut k: usize = 0;
-    while len - k > 8 {
+    while k < len {
         copy8(src, start + k, dst, at + k);
         k += 8;
     }
-    copy8(src, start + (len - 8), dst, at + (len - 8));
 }
 
-// A token of len bytes. Cells from end on stay as they are; those between the token and end are free.
+// A token of len bytes. Cells from end on stay as they are; those between the token and end are free: later tokens come there.
 pub fn copy_token(src: &[u8], start: usize, len: usize, dst: &mut [u8], at: usize, end: usize)
     requires { ⌜ (start + len ≤ length (now src)) × (at + len ≤ end) × (end ≤ length (now dst)) ⌝ }
     ensures { λ r. ⌜ Placed (now (dst .entry)) at (take len (drop start (now (src .entry)))) end (now (dst .exit)) ⌝ }
 {
-    if len > 8 {
-        copy_blocks(src, start, len, dst, at);
-        return;
+    if src.len() - start >= len + 8 {
+        if end - at >= len + 8 {
+            copy_eights(src, start, len, dst, at);
+            return;
+        }
     }
-    if src.len() - start < 8 {
-        copy_bytes(src, start, len, dst, at);
-        return;
-    }
-    if end - at < 8 {
-        copy_bytes(src, start, len, dst, at);
-        return;
-    }
-    copy8(src, start, dst, at);
+    copy_bytes(src, start, len, dst, at);
 }
