@@ -7,3 +7,8 @@ pub mod Chains
 pub mod Linked
 pub mod Child
 pub mod Grow
+pub mod Tails
+pub mod Gather
+pub mod Buckets
+pub mod Queue
+pub mod Order
