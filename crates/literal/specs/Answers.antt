@@ -1,12 +1,18 @@
 -- What each answer of the crate `literal` means, case by case. Assumes nothing.
 use mathlib.Core.Option.{Option, none, some}
-use mathlib.Core.List.{[], _∷_}
-use Prim.Native.Nat.{ℕ}
+use mathlib.Core.Bool.{cond}
+use mathlib.Core.List.{List, [], _∷_}
+use Prim.Native.Nat.{ℕ, _+_}
+use lib.ListN.{length, take}
+use lib.Seq.{sets}
 use Rattle.literal.specs.declared.Number.{Number}
 use Rattle.literal.specs.declared.Number.the-variants.{Value, Bad}
 use Rattle.literal.specs.declared.Piece.{Piece}
 use Rattle.literal.specs.declared.Piece.the-variants as Piece
-use Rattle.spec.specs.Literal
+use Rattle.spec.specs.Literal.{Read, Piece as PieceAt}
+use Rattle.literal.specs.declared.Literal.{Literal}
+use Rattle.literal.specs.declared.Literal.the-variants as Literal
+use Rattle.spec.specs.Lists.{over}
 use Rattle.spec.specs.Utf8.{utf8Of}
 
 -- a number, or none
@@ -15,7 +21,30 @@ numberOf (Value v) = some v
 numberOf Bad = none
 
 -- what stands at a place inside the quotes, or none
-abbrev pub pieceOf : Piece → Option Literal.Piece
+abbrev pub pieceOf : Piece → Option PieceAt
 pieceOf (Piece.Byte b n) = some (record { bytes = b ∷ []; more = n })
 pieceOf (Piece.Point c n) = some (record { bytes = utf8Of c; more = n })
 pieceOf Piece.Bad = none
+
+-- the length of a literal's bytes, or none
+abbrev pub lengthOf : Literal → Option ℕ
+lengthOf (Literal.Length n) = some n
+lengthOf Literal.Bad = none
+
+-- bytes written over the first cells, as far as they fit
+abbrev pub stored : List ℕ → List ℕ → List ℕ
+stored bytes cells = over (take (length cells) bytes) cells
+
+-- ── A reader on its way ──────────────────────────────────────────────
+
+-- What a reader leaves behind: the cells of its output, and the length that it answers, none if the literal is bad.
+pub record Left : Type 0 where
+  pub cells : List ℕ
+  pub answer : Option ℕ
+
+abbrev pub ended : Literal → List ℕ → Left
+ended r cells = record { cells = cells; answer = lengthOf r }
+
+-- what a reader leaves that has written n bytes and reads r from here on; a store past the last cell changes nothing
+unfoldable pub left : List ℕ → ℕ → Read → Left
+left cells n r = record { cells = sets cells n (r .bytes); answer = cond (r .good) (some (n + length (r .bytes))) none }

@@ -101,10 +101,11 @@ piece none rest = bad
 piece (some p) rest = put (p .bytes) (rest (p .more))
 
 -- "`'` or `"`, closed by the same byte at the end; at least two bytes of quotes"
+abbrev pub isQuote : ℕ → Bool
+isQuote b = eqb b apostrophe || eqb b doubleQuote
+
 abbrev pub closed : List ℕ → Bool
-closed s =
-    leb 2 (length s) &&
-    ((eqb (getD s 0 0) apostrophe || eqb (getD s 0 0) doubleQuote) && eqb (getD s (length s - 1) 0) (getD s 0 0))
+closed s = leb 2 (length s) && (isQuote (getD s 0 0) && eqb (getD s (length s - 1) 0) (getD s 0 0))
 
 module _ (escapes : Escapes) where
   -- one step at a byte and those behind it

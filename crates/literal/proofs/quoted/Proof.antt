@@ -1,0 +1,75 @@
+-- `literal::quoted` meets its contract. Assumes nothing.
+use mathlib.Core.Path.{_≡_, refl, sym, ap, _∙_}
+use mathlib.Core.List.{List}
+use Prim.Native.Nat.{ℕ, _-_, _≤_}
+use native.Mathlib.Omega.{arith}
+use borrow.Author.Tests.{not-true, not-false}
+use lib.ListN.{length, take, drop, getD}
+use Rattle.spec.specs.Literal.{Read, escape, inside}
+use Rattle.literal.specs.Answers.{left}
+use Rattle.literal.proofs.Reading.{bad-start, too-short, no-quote, not-closed, all-closed}
+use borrow.Author.Needs.{needs}
+use Rattle.literal.proofs.quoted.Statement.{statement}
+use Rattle.literal.proofs.quoted.Tie as tie
+
+returns : tie.Need-returns
+returns c = bad-start _ _ (too-short _ _ (c .if1 .taken))
+
+shared-slice-read-quote : tie.Need-shared-slice-read-quote
+shared-slice-read-quote c = search needs
+
+is-quote-requires : tie.Need-is-quote-requires
+is-quote-requires c κs = search needs
+
+returns-2 : tie.Need-returns-2
+returns-2 c = bad-start _ _ (no-quote _ _ (c .before .before .before .if1 .left) (sym (c .before .is-quote .ensures) ∙ not-true _ (c .if2 .taken)))
+
+sub-end : tie.Need-sub-end
+sub-end c = search needs
+
+shared-slice-read-if3 : tie.Need-shared-slice-read-if3
+shared-slice-read-if3 c = search needs
+
+returns-3 : tie.Need-returns-3
+returns-3 c = bad-start _ _ (not-closed _ _ (c .before .before .before .before .before .if1 .left) (sym (c .before .before .before .is-quote .ensures) ∙ not-false _ (c .before .before .if2 .left)) (c .if3 .taken))
+
+sub-inside : tie.Need-sub-inside
+sub-inside c = search needs
+
+part-inside-start : tie.Need-part-inside-start
+part-inside-start c = search needs
+
+part-inside-end : tie.Need-part-inside-end
+part-inside-end c = search needs
+
+inside-requires : tie.Need-inside-requires
+inside-requires c κs = search needs
+
+same-length : tie.Need-same-length
+same-length c = search needs
+
+returns-4 : tie.Need-returns-4
+returns-4 c =
+    let text = c .before .before .before .before .before .before .before .before .before .before .before .before .before .args .text .now in
+    let q = all-closed (c .before .before .before .before .before .before .before .before .before .before .before .before .before .args .in-bytes) text (c .before .before .before .before .before .before .before .before .before .before .if1 .left) (sym (c .before .before .before .before .before .before .before .before .is-quote .ensures) ∙ not-false _ (c .before .before .before .before .before .before .before .if2 .left)) (c .before .before .before .before .before .if3 .left) in
+    let n : length text - 1 - 1 ≡ length text - 2 = omega arith in
+    c .before .before .inside .ensures
+    ∙ ap (left (c .before .before .before .before .before .before .before .before .before .before .before .before .before .args .result .now) 0) (rw n (sym q))
+
+pub quoted-spec : {M : Type 1} → statement M
+quoted-spec =
+    tie.close
+    (tie.spec
+    returns
+    shared-slice-read-quote
+    is-quote-requires
+    returns-2
+    sub-end
+    shared-slice-read-if3
+    returns-3
+    sub-inside
+    part-inside-start
+    part-inside-end
+    inside-requires
+    same-length
+    returns-4)
