@@ -1,12 +1,15 @@
 -- The starred examples of document 01, "Examples on V and single lines": one table of theorems, a row each, by computation. An edit of a
 -- definition that changes what it says of V is refused here. Assumes nothing.
-use mathlib.Core.Path.{_≡_, refl}
+use mathlib.Core.Path.{_≡_, refl, ap, _∙_}
 use mathlib.Core.Bool.{Bool, true, false}
 use mathlib.Core.Option.{Option, none, some}
-use mathlib.Core.List.{List, [], _∷_, _++_}
-use Prim.Native.Nat.{ℕ}
+use mathlib.Core.List.{List, [], _∷_, _++_, append-nil}
+use Prim.Native.Nat.{ℕ, _-_}
+use native.Mathlib.Nat.{sub-self}
 use lib.ListN.{length, getD, replicate}
 use lib.IntN.{ℤ}
+use lib.Seq.{drop-nil}
+use Rattle.spec.specs.Lists.{over}
 use Rattle.spec.specs.Check.{andThen, given, need}
 use Rattle.spec.specs.Digits.{digits}
 use Rattle.spec.specs.Line.{lines, fields}
@@ -15,13 +18,13 @@ use Rattle.spec.specs.Token.{Token, seen}
 use Rattle.spec.specs.Trie.{nodeCount}
 use Rattle.spec.specs.Layout.{tableWords}
 use Rattle.spec.specs.Scan.{done, failed, scanAt, scan, waiting, runAt, run}
-use Rattle.spec.specs.Memory.{Memory, memoryOf, blobBytes}
+use Rattle.spec.specs.Memory.{Memory, padded, memoryOf, singleList, offsetList, blobBytes, rootList, tableList}
 use Rattle.spec.specs.Encode.{complete, unmatched, encoding}
 use Rattle.spec.specs.Decode.{decoding}
 use Rattle.spec.specs.Decode as decode
 use Rattle.spec.specs.Load.{Room, accepted, load, takeLines, takeLine, readLine, readFields, idRule, readToken, lengthRule, admit, lastId, finish, missing, countsOf}
-use Rattle.spec.specs.Answer.{Answer, whole}
-use Rattle.spec.specs.Stream.{Called, goesThrough, fresh, add, end}
+use Rattle.spec.specs.Answer.{whole}
+use Rattle.spec.specs.Stream.{openPhase, endedPhase, holding, stoppedAt, fresh, add, end, goesThrough}
 
 -- ── V ────────────────────────────────────────────────────────────────
 
@@ -50,42 +53,60 @@ v-counts : countsOf vv ≡ record { tokens = 5; nodes = 5; blob = 10; table = 51
 unfolding countsOf nodeCount blobBytes tableWords
 v-counts = refl
 
--- what a load of V leaves in memory that was lent with 10 blob bytes, 512 table words and nothing past the fixed lengths
+-- what V's load leaves, as its five parts
 abbrev vMemory : Memory
-vMemory = memoryOf vv (record { single = []; offsets = []; blob = replicate 10 0; roots = []; table = replicate 512 0 })
+vMemory = record { single = singleList vv; offsets = offsetList vv; blob = blobBytes vv; roots = rootList vv; table = tableList vv }
+
+over-nothing : {A : Type 0} (l : List A) → over l [] ≡ l
+over-nothing l = ap (λ (r : List _). l ++ r) (drop-nil (length l)) ∙ append-nil l
+
+padded-full : (l : List ℕ) (n : ℕ) → n ≡ length l → padded l n ≡ l
+padded-full l n e = ap (λ (k : ℕ). l ++ replicate k 0) (ap (λ (k : ℕ). k - length l) e ∙ sub-self (length l)) ∙ append-nil l
+
+-- memory lent with just room for the tokens' bytes and words, and nothing past the fixed lengths, is left as these parts
+leaves : (ts : List Token) (blob table : List ℕ) → length blob ≡ length (blobBytes ts) → length table ≡ length (tableList ts)
+    → memoryOf ts (record { single = []; offsets = []; blob = blob; roots = []; table = table })
+    ≡ record { single = singleList ts; offsets = offsetList ts; blob = blobBytes ts; roots = rootList ts; table = tableList ts }
+unfolding memoryOf
+leaves ts blob table b t =
+    cc (over-nothing (singleList ts), over-nothing (offsetList ts), over-nothing (rootList ts), padded-full (blobBytes ts) (length blob) b, padded-full (tableList ts) (length table) t)
+
+v-leaves : memoryOf vv (record { single = []; offsets = []; blob = replicate 10 0; roots = []; table = replicate 512 0 }) ≡ vMemory
+unfolding blobBytes tableList
+v-leaves = leaves vv (replicate 10 0) (replicate 512 0) refl refl
 
 v-root : getD (vMemory .roots) 0x6162 0 ≡ 0x16300000300
-unfolding memoryOf
+unfolding rootList
 v-root = refl
 
 v-word-256 : getD (vMemory .table) 256 0 ≡ 0x16500000063
-unfolding memoryOf
+unfolding tableList
 v-word-256 = refl
 
 v-word-257 : getD (vMemory .table) 257 0 ≡ 0x464
-unfolding memoryOf
+unfolding tableList
 v-word-257 = refl
 
 -- ── Encoding ─────────────────────────────────────────────────────────
 
 -- abcd gives 4
 abcd : encoding vMemory 4 (0x61 ∷ 0x62 ∷ 0x63 ∷ 0x64 ∷ []) ≡ record { ids = 4 ∷ []; end = complete }
-unfolding encoding memoryOf
+unfolding encoding singleList offsetList blobBytes rootList tableList
 abcd = refl
 
 -- aab gives 1, 3
 aab : encoding vMemory 3 (0x61 ∷ 0x61 ∷ 0x62 ∷ []) ≡ record { ids = 1 ∷ 3 ∷ []; end = complete }
-unfolding encoding memoryOf
+unfolding encoding singleList offsetList blobBytes rootList tableList
 aab = refl
 
 -- abbc gives 3, 5
 abbc : encoding vMemory 4 (0x61 ∷ 0x62 ∷ 0x62 ∷ 0x63 ∷ []) ≡ record { ids = 3 ∷ 5 ∷ []; end = complete }
-unfolding encoding memoryOf
+unfolding encoding singleList offsetList blobBytes rootList tableList
 abbc = refl
 
 -- abc gives 3, then 22 at offset 2, byte 63 hex
 abc : encoding vMemory 3 (0x61 ∷ 0x62 ∷ 0x63 ∷ []) ≡ record { ids = 3 ∷ []; end = unmatched 2 0x63 }
-unfolding encoding memoryOf
+unfolding encoding singleList offsetList blobBytes rootList tableList
 abc = refl
 
 -- the same of the scan on tokens
@@ -107,52 +128,44 @@ abc-scan = refl
 
 -- ── The running encoder ──────────────────────────────────────────────
 
--- what the replies hand out and answer, call by call, over V's memory from a fresh stream
-abbrev shown : Called → List ℕ × Answer
-shown d = (d .ids, d .answer)
+-- Each call begins with the record that the one before it left.
 
 -- Pieces ab, b, c: none, then 3, then 5; end none.
-abbrev piece-ab : Called
-piece-ab = goesThrough vMemory fresh (add (0x61 ∷ 0x62 ∷ []) (replicate 2 0))
-
-abbrev piece-b : Called
-piece-b = goesThrough vMemory (piece-ab .stream) (add (0x62 ∷ []) (replicate 3 0))
-
-abbrev piece-c : Called
-piece-c = goesThrough vMemory (piece-b .stream) (add (0x63 ∷ []) (replicate 2 0))
-
-abbrev ab-b-c-end : Called
-ab-b-c-end = goesThrough vMemory (piece-c .stream) (end [])
-
-ab-none : shown piece-ab ≡ ([], whole 0)
-unfolding goesThrough memoryOf
+ab-none :
+    goesThrough vMemory fresh (add (0x61 ∷ 0x62 ∷ []) (replicate 2 0))
+    ≡ record { answer = whole 0; stream = holding openPhase 2 (0x61 ∷ 0x62 ∷ []); ids = [] }
+unfolding goesThrough singleList offsetList blobBytes rootList tableList
 ab-none = refl
 
-b-three : shown piece-b ≡ (3 ∷ [], whole 1)
-unfolding goesThrough memoryOf
+b-three :
+    goesThrough vMemory (holding openPhase 2 (0x61 ∷ 0x62 ∷ [])) (add (0x62 ∷ []) (replicate 3 0))
+    ≡ record { answer = whole 1; stream = holding openPhase 3 (0x62 ∷ []); ids = 3 ∷ [] }
+unfolding goesThrough singleList offsetList blobBytes rootList tableList
 b-three = refl
 
-c-five : shown piece-c ≡ (5 ∷ [], whole 1)
-unfolding goesThrough memoryOf
+c-five :
+    goesThrough vMemory (holding openPhase 3 (0x62 ∷ [])) (add (0x63 ∷ []) (replicate 2 0))
+    ≡ record { answer = whole 1; stream = holding openPhase 4 []; ids = 5 ∷ [] }
+unfolding goesThrough singleList offsetList blobBytes rootList tableList
 c-five = refl
 
-end-none : shown ab-b-c-end ≡ ([], whole 0)
-unfolding goesThrough memoryOf
+end-none :
+    goesThrough vMemory (holding openPhase 4 []) (end [])
+    ≡ record { answer = whole 0; stream = holding endedPhase 4 []; ids = [] }
+unfolding goesThrough singleList offsetList blobBytes rootList tableList
 end-none = refl
 
 -- Piece abc, end: none, then 3 and 22 at 2.
-abbrev piece-abc : Called
-piece-abc = goesThrough vMemory fresh (add (0x61 ∷ 0x62 ∷ 0x63 ∷ []) (replicate 3 0))
-
-abbrev abc-end : Called
-abc-end = goesThrough vMemory (piece-abc .stream) (end (replicate 3 0))
-
-abc-none : shown piece-abc ≡ ([], whole 0)
-unfolding goesThrough memoryOf
+abc-none :
+    goesThrough vMemory fresh (add (0x61 ∷ 0x62 ∷ 0x63 ∷ []) (replicate 3 0))
+    ≡ record { answer = whole 0; stream = holding openPhase 3 (0x61 ∷ 0x62 ∷ 0x63 ∷ []); ids = [] }
+unfolding goesThrough singleList offsetList blobBytes rootList tableList
 abc-none = refl
 
-abc-ends : shown abc-end ≡ (3 ∷ [], record { number = 22; count = 1; place = 2; value = 0x63 })
-unfolding goesThrough memoryOf
+abc-ends :
+    goesThrough vMemory (holding openPhase 3 (0x61 ∷ 0x62 ∷ 0x63 ∷ [])) (end (replicate 3 0))
+    ≡ record { answer = record { number = 22; count = 1; place = 2; value = 0x63 }; stream = stoppedAt 3 2 0x63; ids = 3 ∷ [] }
+unfolding goesThrough singleList offsetList blobBytes rootList tableList
 abc-ends = refl
 
 -- the same of the running form on tokens: what is handed out after ab, abb, abbc, abc
@@ -176,12 +189,12 @@ run-abc = refl
 
 -- Decoding 4, 1 gives abcda
 decode-4-1 : decoding vMemory 5 (4 ∷ 1 ∷ []) ≡ record { bytes = 0x61 ∷ 0x62 ∷ 0x63 ∷ 0x64 ∷ 0x61 ∷ []; end = decode.complete }
-unfolding decoding memoryOf
+unfolding decoding singleList offsetList blobBytes rootList tableList
 decode-4-1 = refl
 
 -- 3, 0 gives 27 at index 1
 decode-3-0 : decoding vMemory 5 (3 ∷ 0 ∷ []) ≡ record { bytes = 0x61 ∷ 0x62 ∷ []; end = decode.absent 1 0 }
-unfolding decoding memoryOf
+unfolding decoding singleList offsetList blobBytes rootList tableList
 decode-3-0 = refl
 
 -- ── Literals ─────────────────────────────────────────────────────────
