@@ -50,7 +50,8 @@ unfolding firstSpace
 first-lt [] k e = absurd (Option·none-ne-some k e)
 first-lt (b ∷ s) k e = go (eqb b space) (firstSpace s) e (first-lt s)
   where
-    go : (c : Bool) (o : Option ℕ) → cond c (some 0) (Option·map suc o) ≡ some k → ((j : ℕ) → o ≡ some j → j < length s) → k < suc (length s)
+    go : (c : Bool) (o : Option ℕ) → cond c (some 0) (Option·map suc o) ≡ some k
+        → ((j : ℕ) → o ≡ some j → j < length s) → k < suc (length s)
     go true o q f = let z = Option·some-injective _ _ q in omega arith
     go false none q f = absurd (Option·none-ne-some k q)
     go false (some j) q f = let z = Option·some-injective _ _ q in let l = f j refl in omega arith
@@ -96,7 +97,8 @@ unfolding lastSpace orElse
 last-lt [] k e = absurd (Option·none-ne-some k e)
 last-lt (b ∷ s) k e = go (eqb b space) (lastSpace s) e (last-lt s)
   where
-    go : (c : Bool) (o : Option ℕ) → orElse (Option·map suc o) (cond c (some 0) none) ≡ some k → ((j : ℕ) → o ≡ some j → j < length s) → k < suc (length s)
+    go : (c : Bool) (o : Option ℕ) → orElse (Option·map suc o) (cond c (some 0) none) ≡ some k
+        → ((j : ℕ) → o ≡ some j → j < length s) → k < suc (length s)
     go true none q f = let z = Option·some-injective _ _ q in omega arith
     go false none q f = absurd (Option·none-ne-some k q)
     go true (some j) q f = let z = Option·some-injective _ _ q in let l = f j refl in omega arith

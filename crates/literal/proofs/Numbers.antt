@@ -116,7 +116,8 @@ hex-small {b} h k e = rw (above-range 0x30 0x39 {b = b} (omega arith), in-range 
 
 pub hex-capital : {b d : ℕ} → 0x41 ≤ b → b ≤ 0x46 → d ≡ b - 0x41 → hexDigit b ≡ some (d + 10)
 unfolding hexDigit
-hex-capital {b} h k e = rw (above-range 0x30 0x39 {b = b} (omega arith), below-range 0x61 0x66 {b = b} (omega arith), in-range 0x41 0x46 h k, e)
+hex-capital {b} h k e =
+    rw (above-range 0x30 0x39 {b = b} (omega arith), below-range 0x61 0x66 {b = b} (omega arith), in-range 0x41 0x46 h k, e)
 
 -- the four gaps
 pub hex-below : {b : ℕ} → b < 0x30 → hexDigit b ≡ none
@@ -145,9 +146,18 @@ hex-lt b d e = go (within (0x30 to 0x39) b) (within (0x61 to 0x66) b) (within (0
   where
     go : (x y z : Bool) → within (0x30 to 0x39) b ≡ x → within (0x61 to 0x66) b ≡ y → within (0x41 to 0x46) b ≡ z
         → cond x (some (b - 0x30)) (cond y (some (b - 0x61 + 10)) (cond z (some (b - 0x41 + 10)) none)) ≡ some d → d < 16
-    go true y z hx hy hz e = let q = Option·some-injective _ _ e in let k = leb-true b 0x39 (and-right (leb 0x30 b) hx) in omega arith
-    go false true z hx hy hz e = let q = Option·some-injective _ _ e in let k = leb-true b 0x66 (and-right (leb 0x61 b) hy) in omega arith
-    go false false true hx hy hz e = let q = Option·some-injective _ _ e in let k = leb-true b 0x46 (and-right (leb 0x41 b) hz) in omega arith
+    go true y z hx hy hz e =
+        let q = Option·some-injective _ _ e in
+        let k = leb-true b 0x39 (and-right (leb 0x30 b) hx) in
+        omega arith
+    go false true z hx hy hz e =
+        let q = Option·some-injective _ _ e in
+        let k = leb-true b 0x66 (and-right (leb 0x61 b) hy) in
+        omega arith
+    go false false true hx hy hz e =
+        let q = Option·some-injective _ _ e in
+        let k = leb-true b 0x46 (and-right (leb 0x41 b) hz) in
+        omega arith
     go false false false hx hy hz e = absurd (Option·none-ne-some d e)
 
 -- a run read up to the place i, with the value v so far

@@ -9,14 +9,16 @@ use native.Mathlib.Nat.{add-zero, zero-add, le-refl, le-of-lt}
 use native.Mathlib.Decide.{decLe}
 use native.Mathlib.Numerals.{add-one}
 use native.Mathlib.Omega.{arith}
-use lib.ListN.{length, take, drop, getD, set, replicate, take-append-drop, List·getD-append, length-append, length-set, length-drop, drop-of-length-le}
+use lib.ListN.{length, take, drop, getD, set, replicate, take-append-drop, List·getD-append, length-append, length-drop}
+use lib.ListN.{drop-of-length-le}
 use lib.Seq.{drop-cons, drop-drop, take-suc, take-all, length-take-le, sets, sets-eq, length-sets, set-out}
 use lib.Dec.{eqb, leb, lit≤}
 use borrow.Author.Tests.{eq-eqb, ne-eqb, le-leb, lt-leb}
 use Rattle.spec.specs.Lists.{over}
 use Rattle.spec.specs.Utf8.{Range, _to_, within, utf8Of}
 use Rattle.spec.specs.Digits.{hexRun}
-use Rattle.spec.specs.Literal.{Piece, Read, bad, put, piece, backslash, letterB, letters, lookUp, escaped, byteEscape, pointEscape, escape, pieceAt, inside, isQuote, closed, quoted, read, literal, whole}
+use Rattle.spec.specs.Literal.{Piece, backslash, letterB, letters, lookUp, escaped, byteEscape, pointEscape, escape, pieceAt}
+use Rattle.spec.specs.Literal.{Read, bad, put, piece, inside, isQuote, quoted, read, literal}
 use Rattle.utf8.specs.declared.Encoded.{Encoded}
 use Rattle.utf8.specs.Means.{encodedAs}
 use Rattle.literal.specs.Answers.{Left, left, stored, pieceOf}
@@ -207,7 +209,8 @@ module _ (inB : Bool) (quote : ℕ) where
       goes-bad h e = rw (turn-bad h e)
 
       -- a piece, written to the cells
-      pub goes-on : (p : Piece) (l′ : List ℕ) (n′ : ℕ) → i < length text → at ≡ some p → l′ ≡ sets l n (p .bytes) → n′ ≡ n + length (p .bytes)
+      pub goes-on : (p : Piece) (l′ : List ℕ) (n′ : ℕ) → i < length text → at ≡ some p
+          → l′ ≡ sets l n (p .bytes) → n′ ≡ n + length (p .bytes)
           → left l′ n′ (from (i + (1 + p .more))) ≡ left l n (from i)
       goes-on p l′ n′ h e cells count =
           ap₂ (λ (z : List ℕ) (k : ℕ). left z k (from (i + (1 + p .more)))) cells count

@@ -2,7 +2,7 @@
 -- how far it reaches. The set of escapes is a parameter of the reading: `escape` is the one that the base fixes. Assumes nothing.
 use mathlib.Core.Path.{_≡_, refl}
 use mathlib.Core.Bool.{Bool, true, false, not, _&&_, _||_, cond}
-use mathlib.Core.Option.{Option, none, some, bind}
+use mathlib.Core.Option.{Option, none, some, bind, Option·none-ne-some, Option·some-injective}
 use mathlib.Core.List.{List, [], _∷_, _++_}
 use Prim.Native.Nat.{ℕ, zero, suc, _+_, _-_}
 use lib.Dec.{eqb, leb, ltb}
@@ -142,7 +142,16 @@ unfoldable pub literal : List ℕ → Option (List ℕ)
 unfolding read
 literal s = whole (read s)
 
--- ── Document 01's other examples (the starred ones stand in Examples) ───────────────────────────────────────────
+-- What a good literal stands for is what was read of it.
+pub literal-read : (s bs : List ℕ) → literal s ≡ some bs → (read s) .bytes ≡ bs
+unfolding literal
+literal-read s bs e = go ((read s) .good) e
+  where
+    go : (c : Bool) → cond c (some ((read s) .bytes)) none ≡ some bs → (read s) .bytes ≡ bs
+    go true q = Option·some-injective ((read s) .bytes) bs q
+    go false q = absurd (Option·none-ne-some bs q)
+
+-- ── Document 01's other examples (the starred ones stand in Examples) ─
 
 -- `'\ud800'` is bad
 surrogate-bad : literal (0x27 ∷ 0x5C ∷ 0x75 ∷ 0x64 ∷ 0x38 ∷ 0x30 ∷ 0x30 ∷ 0x27 ∷ []) ≡ none

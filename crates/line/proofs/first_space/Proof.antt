@@ -30,7 +30,10 @@ loop-less : tie.Need-loop-less Inv-loop μ-loop
 loop-less c = omega arith
 
 loop-again : tie.Need-loop-again Inv-loop μ-loop
-loop-again c = (omega arith, sym (first-later _ _ (c .before .before .loop-test .taken) (c .if1 .left)) ∙ c .before .before .before .loop .inv .1)
+loop-again c =
+    let loop = c .before .before .before .loop in
+    let loop-test = c .before .before .loop-test in
+    (omega arith, sym (first-later _ _ (loop-test .taken) (c .if1 .left)) ∙ loop .inv .1)
 
 returns-2 : tie.Need-returns-2 Inv-loop μ-loop
 returns-2 c = sym (first-none _ _ (c .loop-test .left)) ∙ c .before .loop .inv .1

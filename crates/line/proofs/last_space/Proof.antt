@@ -24,13 +24,19 @@ shared-slice-read-if1 : tie.Need-shared-slice-read-if1 Inv-loop μ-loop
 shared-slice-read-if1 c = omega arith
 
 returns : tie.Need-returns Inv-loop μ-loop
-returns c = sym (last-here _ _ (c .before .before .loop-test .taken) (c .before .before .before .loop .inv .0) (c .if1 .taken)) ∙ c .before .before .before .loop .inv .1
+returns c =
+    let loop = c .before .before .before .loop in
+    let loop-test = c .before .before .loop-test in
+    sym (last-here _ _ (loop-test .taken) (loop .inv .0) (c .if1 .taken)) ∙ loop .inv .1
 
 loop-less : tie.Need-loop-less Inv-loop μ-loop
 loop-less c = omega arith
 
 loop-again : tie.Need-loop-again Inv-loop μ-loop
-loop-again c = (omega arith, sym (last-before _ _ (c .before .before .loop-test .taken) (c .before .before .before .loop .inv .0) (c .if1 .left)) ∙ c .before .before .before .loop .inv .1)
+loop-again c =
+    let loop = c .before .before .before .loop in
+    let loop-test = c .before .before .loop-test in
+    (omega arith, sym (last-before _ _ (loop-test .taken) (loop .inv .0) (c .if1 .left)) ∙ loop .inv .1)
 
 returns-2 : tie.Need-returns-2 Inv-loop μ-loop
 returns-2 c = sym (last-none _ _ (c .loop-test .left)) ∙ c .before .loop .inv .1

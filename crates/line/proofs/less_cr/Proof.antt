@@ -14,10 +14,16 @@ sub-result : tie.Need-sub-result
 sub-result c = search needs
 
 returns : tie.Need-returns
-returns c = end-taken _ _ _ (c .before .before .before .pre .0) (c .before .before .before .pre .1) (c .before .before .if1 .taken) (c .if2 .taken)
+returns c =
+    let pre = c .before .before .before .pre in
+    let if1 = c .before .before .if1 in
+    end-taken _ _ _ (pre .0) (pre .1) (if1 .taken) (c .if2 .taken)
 
 returns-2 : tie.Need-returns-2
-returns-2 c = end-kept _ _ _ (c .before .before .before .pre .0) (c .before .before .before .pre .1) (c .before .before .if1 .taken) (c .if2 .left)
+returns-2 c =
+    let pre = c .before .before .before .pre in
+    let if1 = c .before .before .if1 in
+    end-kept _ _ _ (pre .0) (pre .1) (if1 .taken) (c .if2 .left)
 
 returns-3 : tie.Need-returns-3
 returns-3 c = end-empty _ _ _ (c .before .pre .0) (c .before .pre .1) (c .if1 .left)

@@ -14,16 +14,26 @@ less-cr-requires : tie.Need-less-cr-requires
 less-cr-requires c κs = found-in _ _ _ (c .before .if1 .left) (c .find-lf .ensures)
 
 returns-2 : tie.Need-returns-2
-returns-2 c = turn-last _ _ _ (c .before .before .before .if1 .left) (c .before .before .find-lf .ensures) _ (c .before .less-cr .ensures) (c .if2 .taken)
+returns-2 c =
+    let if1 = c .before .before .before .if1 in
+    let find-lf = c .before .before .find-lf in
+    turn-last _ _ _ (if1 .left) (find-lf .ensures) _ (c .before .less-cr .ensures) (c .if2 .taken)
 
 less-cr-requires-2 : tie.Need-less-cr-requires-2
-less-cr-requires-2 c κs = once-in _ _ _ (c .before .before .before .if1 .left) (c .before .before .find-lf .ensures) _ (c .before .less-cr .ensures)
+less-cr-requires-2 c κs =
+    let if1 = c .before .before .before .if1 in
+    let find-lf = c .before .before .find-lf in
+    once-in _ _ _ (if1 .left) (find-lf .ensures) _ (c .before .less-cr .ensures)
 
 add-t7 : tie.Need-add-t7
 add-t7 c = search needs
 
 returns-3 : tie.Need-returns-3
-returns-3 c = turn-line _ _ _ (c .before .before .before .before .if1 .left) (c .before .before .before .find-lf .ensures) _ (c .before .before .less-cr .ensures) (c .before .if2 .left) _ (c .less-cr2 .ensures)
+returns-3 c =
+    let if1 = c .before .before .before .before .if1 in
+    let find-lf = c .before .before .before .find-lf in
+    let less-cr = c .before .before .less-cr in
+    turn-line _ _ _ (if1 .left) (find-lf .ensures) _ (less-cr .ensures) (c .before .if2 .left) _ (c .less-cr2 .ensures)
 
 pub next-line-spec : {M : Type 1} → statement M
 next-line-spec =

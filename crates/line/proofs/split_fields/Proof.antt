@@ -24,7 +24,9 @@ enum-told : tie.Need-enum-told
 enum-told c = search needs
 
 returns-2 : tie.Need-returns-2
-returns-2 c = (sym (no-first _ (sym (c .before .before .before .before .is-blank .ensures) ∙ c .before .before .before .if1 .left) (sym (c .before .before .first-space .ensures) ∙ ap spaceOf (c .enum-told .given .1))), tt)
+returns-2 c =
+    let no = sym (c .before .before .before .before .is-blank .ensures) ∙ c .before .before .before .if1 .left in
+    (sym (no-first _ no (sym (c .before .before .first-space .ensures) ∙ ap spaceOf (c .enum-told .given .1))), tt)
 
 last-space-requires : tie.Need-last-space-requires
 last-space-requires c κs = search needs
@@ -36,32 +38,61 @@ enum-told-2 : tie.Need-enum-told-2
 enum-told-2 c = search needs
 
 returns-3 : tie.Need-returns-3
-returns-3 c = (sym (no-last _ (sym (c .before .before .before .before .before .before .before .before .is-blank .ensures) ∙ c .before .before .before .before .before .before .before .if1 .left) _ (sym (c .before .before .before .before .before .before .first-space .ensures) ∙ ap spaceOf (c .before .before .before .before .first .given .1)) (sym (c .before .before .last-space .ensures) ∙ ap spaceOf (c .enum-told2 .given .1))), tt)
+returns-3 c =
+    let first = c .before .before .before .before in
+    let no = sym (first .before .before .before .before .is-blank .ensures) ∙ first .before .before .before .if1 .left in
+    let f = sym (first .before .before .first-space .ensures) ∙ ap spaceOf (first .first .given .1) in
+    (sym (no-last _ no _ f (sym (c .before .before .last-space .ensures) ∙ ap spaceOf (c .enum-told2 .given .1))), tt)
 
 returns-4 : tie.Need-returns-4
-returns-4 c = (sym (leads _ (sym (c .before .before .before .before .before .before .before .before .before .before .is-blank .ensures) ∙ c .before .before .before .before .before .before .before .before .before .if1 .left) _ (sym (c .before .before .before .before .before .before .before .before .first-space .ensures) ∙ ap spaceOf (c .before .before .before .before .before .before .first .given .1)) _ (sym (c .before .before .before .before .last-space .ensures) ∙ ap spaceOf (c .before .before .last .given .1)) (c .if2 .taken)), tt)
+returns-4 c =
+    let second = c .before .before in
+    let first = second .before .before .before .before in
+    let no = sym (first .before .before .before .before .is-blank .ensures) ∙ first .before .before .before .if1 .left in
+    let f = sym (first .before .before .first-space .ensures) ∙ ap spaceOf (first .first .given .1) in
+    let l = sym (second .before .before .last-space .ensures) ∙ ap spaceOf (second .last .given .1) in
+    (sym (leads _ no _ f _ l (c .if2 .taken)), tt)
 
 add-if3 : tie.Need-add-if3
 add-if3 c =
-    let h = first-lt _ _ (sym (c .before .before .before .before .before .before .before .before .first-space .ensures) ∙ ap spaceOf (c .before .before .before .before .before .before .first .given .1)) in
+    let first = c .before .before .before .before .before .before in
+    let f = sym (first .before .before .first-space .ensures) ∙ ap spaceOf (first .first .given .1) in
+    let h = first-lt _ _ f in
     omega arith
 
 returns-5 : tie.Need-returns-5
-returns-5 c = (sym (near _ (sym (c .before .before .before .before .before .before .before .before .before .before .before .is-blank .ensures) ∙ c .before .before .before .before .before .before .before .before .before .before .if1 .left) _ (sym (c .before .before .before .before .before .before .before .before .before .first-space .ensures) ∙ ap spaceOf (c .before .before .before .before .before .before .before .first .given .1)) _ (sym (c .before .before .before .before .before .last-space .ensures) ∙ ap spaceOf (c .before .before .before .last .given .1)) (c .if3 .taken)), tt)
+returns-5 c =
+    let second = c .before .before .before in
+    let first = second .before .before .before .before in
+    let no = sym (first .before .before .before .before .is-blank .ensures) ∙ first .before .before .before .if1 .left in
+    let f = sym (first .before .before .first-space .ensures) ∙ ap spaceOf (first .first .given .1) in
+    let l = sym (second .before .before .last-space .ensures) ∙ ap spaceOf (second .last .given .1) in
+    (sym (near _ no _ f _ l (c .if3 .taken)), tt)
 
 add-if4 : tie.Need-add-if4
 add-if4 c =
-    let h = last-lt _ _ (sym (c .before .before .before .before .before .last-space .ensures) ∙ ap spaceOf (c .before .before .before .last .given .1)) in
+    let second = c .before .before .before in
+    let l = sym (second .before .before .last-space .ensures) ∙ ap spaceOf (second .last .given .1) in
+    let h = last-lt _ _ l in
     omega arith
 
 returns-6 : tie.Need-returns-6
-returns-6 c = (sym (ends _ (sym (c .before .before .before .before .before .before .before .before .before .before .before .before .is-blank .ensures) ∙ c .before .before .before .before .before .before .before .before .before .before .before .if1 .left) _ (sym (c .before .before .before .before .before .before .before .before .before .before .first-space .ensures) ∙ ap spaceOf (c .before .before .before .before .before .before .before .before .first .given .1)) _ (sym (c .before .before .before .before .before .before .last-space .ensures) ∙ ap spaceOf (c .before .before .before .before .last .given .1)) (c .if4 .taken)), tt)
+returns-6 c =
+    let second = c .before .before .before .before in
+    let first = second .before .before .before .before in
+    let no = sym (first .before .before .before .before .is-blank .ensures) ∙ first .before .before .before .if1 .left in
+    let f = sym (first .before .before .first-space .ensures) ∙ ap spaceOf (first .first .given .1) in
+    let l = sym (second .before .before .last-space .ensures) ∙ ap spaceOf (second .last .given .1) in
+    (sym (ends _ no _ f _ l (c .if4 .taken)), tt)
 
 returns-7 : tie.Need-returns-7
-returns-7 c = (
-  sym (found _ (sym (c .before .before .before .before .before .before .before .before .before .before .before .before .is-blank .ensures) ∙ c .before .before .before .before .before .before .before .before .before .before .before .if1 .left) _ (sym (c .before .before .before .before .before .before .before .before .before .before .first-space .ensures) ∙ ap spaceOf (c .before .before .before .before .before .before .before .before .first .given .1)) _ (sym (c .before .before .before .before .before .before .last-space .ensures) ∙ ap spaceOf (c .before .before .before .before .last .given .1)) (omega arith) (omega arith) (omega arith)),
-  (omega arith, omega arith, omega arith),
-)
+returns-7 c =
+    let second = c .before .before .before .before in
+    let first = second .before .before .before .before in
+    let no = sym (first .before .before .before .before .is-blank .ensures) ∙ first .before .before .before .if1 .left in
+    let f = sym (first .before .before .first-space .ensures) ∙ ap spaceOf (first .first .given .1) in
+    let l = sym (second .before .before .last-space .ensures) ∙ ap spaceOf (second .last .given .1) in
+    (sym (found _ no _ f _ l (omega arith) (omega arith) (omega arith)), (omega arith, omega arith, omega arith))
 
 pub split-fields-spec : {M : Type 1} → statement M
 split-fields-spec =

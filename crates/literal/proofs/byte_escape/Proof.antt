@@ -23,22 +23,30 @@ returns c = sym (byte-none _ _ (sym (c .before .before .hex-run .ensures) ∙ ap
 
 cast-t7 : tie.Need-cast-t7
 cast-t7 c =
-    let h = hexAfter-lt 2 0 0 _ _ (lit< tt) (sym (c .before .before .before .before .hex-run .ensures) ∙ ap numberOf (c .before .before .v .given .1)) in
+    let hex-run = c .before .before .before .before .hex-run in
+    let v = c .before .before .v in
+    let h = hexAfter-lt 2 0 0 _ _ (lit< tt) (sym (hex-run .ensures) ∙ ap numberOf (v .given .1)) in
     omega arith
 
 cast-t8 : tie.Need-cast-t8
 cast-t8 c =
-    let h = hexAfter-lt 2 0 0 _ _ (lit< tt) (sym (c .before .before .before .before .hex-run .ensures) ∙ ap numberOf (c .before .before .v .given .1)) in
+    let hex-run = c .before .before .before .before .hex-run in
+    let v = c .before .before .v in
+    let h = hexAfter-lt 2 0 0 _ _ (lit< tt) (sym (hex-run .ensures) ∙ ap numberOf (v .given .1)) in
     omega arith
 
 returns-2 : tie.Need-returns-2
 returns-2 c =
-    sym (byte-some _ _ _ (sym (c .before .before .before .before .hex-run .ensures) ∙ ap numberOf (c .before .before .v .given .1))
+    let hex-run = c .before .before .before .before .hex-run in
+    let v = c .before .before .v in
+    sym (byte-some _ _ _ (sym (hex-run .ensures) ∙ ap numberOf (v .given .1))
     ∙ rw (c .if1 .taken))
 
 returns-3 : tie.Need-returns-3
 returns-3 c =
-    sym (byte-some _ _ _ (sym (c .before .before .before .before .hex-run .ensures) ∙ ap numberOf (c .before .before .v .given .1))
+    let hex-run = c .before .before .before .before .hex-run in
+    let v = c .before .before .v in
+    sym (byte-some _ _ _ (sym (hex-run .ensures) ∙ ap numberOf (v .given .1))
     ∙ rw (c .if1 .left))
 
 pub byte-escape-spec : {M : Type 1} → statement M

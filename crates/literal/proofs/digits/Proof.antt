@@ -5,7 +5,8 @@ use Prim.Native.Nat.{ℕ, _+_, _-_, _*_, _≤_, _<_}
 use native.Mathlib.Omega.{arith}
 use lib.ListN.{length, drop, getD}
 use Rattle.spec.specs.Digits.{digits as digitsOf}
-use Rattle.literal.proofs.Numbers.{digit-yes, digit-below, digit-above, rest, digit-goes, digit-stops, digit-ends, digits-some, digits-none, too-much}
+use Rattle.literal.proofs.Numbers.{digit-yes, digit-below, digit-above, rest, digit-goes, digit-stops, digit-ends}
+use Rattle.literal.proofs.Numbers.{digits-some, digits-none, too-much}
 use Rattle.literal.proofs.digits.Statement.{statement}
 use Rattle.literal.proofs.digits.Tie as tie
 
@@ -26,25 +27,40 @@ shared-slice-read-b : tie.Need-shared-slice-read-b Inv-loop μ-loop
 shared-slice-read-b c = omega arith
 
 returns-2 : tie.Need-returns-2 Inv-loop μ-loop
-returns-2 c = sym (digit-stops _ _ _ _ (c .before .before .loop-test .taken) (digit-below (c .if2 .taken))) ∙ c .before .before .before .loop .inv .2
+returns-2 c =
+    let loop = c .before .before .before .loop in
+    let loop-test = c .before .before .loop-test in
+    sym (digit-stops _ _ _ _ (loop-test .taken) (digit-below (c .if2 .taken))) ∙ loop .inv .2
 
 returns-3 : tie.Need-returns-3 Inv-loop μ-loop
-returns-3 c = sym (digit-stops _ _ _ _ (c .before .before .before .loop-test .taken) (digit-above (c .if3 .taken))) ∙ c .before .before .before .before .loop .inv .2
+returns-3 c =
+    let loop = c .before .before .before .before .loop in
+    let loop-test = c .before .before .before .loop-test in
+    sym (digit-stops _ _ _ _ (loop-test .taken) (digit-above (c .if3 .taken))) ∙ loop .inv .2
 
 wide-requires : tie.Need-wide-requires Inv-loop μ-loop
 wide-requires c κs = tt
 
 returns-4 : tie.Need-returns-4 Inv-loop μ-loop
 returns-4 c =
-    sym (digit-goes _ _ _ _ _ (c .before .before .before .before .before .loop-test .taken) (digit-yes (c .before .before .before .if2 .left) (c .before .before .if3 .left) (c .before .wide .ensures))
+    let loop = c .before .before .before .before .before .before .loop in
+    let loop-test = c .before .before .before .before .before .loop-test in
+    let if2 = c .before .before .before .if2 in
+    let if3 = c .before .before .if3 in
+    sym (digit-goes _ _ _ _ _ (loop-test .taken) (digit-yes (if2 .left) (if3 .left) (c .before .wide .ensures))
     ∙ too-much _ _ _ (omega arith))
-    ∙ c .before .before .before .before .before .before .loop .inv .2
+    ∙ loop .inv .2
 
 returns-5 : tie.Need-returns-5 Inv-loop μ-loop
 returns-5 c =
-    sym (digit-goes _ _ _ _ _ (c .before .before .before .before .before .before .loop-test .taken) (digit-yes (c .before .before .before .before .if2 .left) (c .before .before .before .if3 .left) (c .before .before .wide .ensures))
+    let loop = c .before .before .before .before .before .before .before .loop in
+    let loop-test = c .before .before .before .before .before .before .loop-test in
+    let if2 = c .before .before .before .before .if2 in
+    let if3 = c .before .before .before .if3 in
+    let wide = c .before .before .wide in
+    sym (digit-goes _ _ _ _ _ (loop-test .taken) (digit-yes (if2 .left) (if3 .left) (wide .ensures))
     ∙ too-much _ _ _ (omega arith))
-    ∙ c .before .before .before .before .before .before .before .loop .inv .2
+    ∙ loop .inv .2
 
 mul-value : tie.Need-mul-value Inv-loop μ-loop
 mul-value c = omega arith
@@ -59,12 +75,17 @@ loop-less : tie.Need-loop-less Inv-loop μ-loop
 loop-less c = omega arith
 
 loop-again : tie.Need-loop-again Inv-loop μ-loop
-loop-again c = (
-  omega arith,
-  omega arith,
-  sym (digit-goes _ _ _ _ _ (c .before .before .before .before .before .before .loop-test .taken) (digit-yes (c .before .before .before .before .if2 .left) (c .before .before .before .if3 .left) (c .before .before .wide .ensures)))
-      ∙ c .before .before .before .before .before .before .before .loop .inv .2,
-)
+loop-again c =
+    let loop = c .before .before .before .before .before .before .before .loop in
+    let loop-test = c .before .before .before .before .before .before .loop-test in
+    let if2 = c .before .before .before .before .if2 in
+    let if3 = c .before .before .before .if3 in
+    let wide = c .before .before .wide in (
+      omega arith,
+      omega arith,
+      sym (digit-goes _ _ _ _ _ (loop-test .taken) (digit-yes (if2 .left) (if3 .left) (wide .ensures)))
+          ∙ loop .inv .2,
+    )
 
 returns-6 : tie.Need-returns-6 Inv-loop μ-loop
 returns-6 c = sym (digit-ends _ _ _ _ (c .loop-test .left) (c .before .loop .inv .1)) ∙ c .before .loop .inv .2

@@ -69,16 +69,20 @@ returns-8 c = sym (escape-letter _ _ _ (omega arith) (c .match .keys7))
 returns-9 : tie.Need-returns-9
 unfolding chosen
 returns-9 c =
+    let args = c .before .before .before .before .before .before .args in
+    let the-match = c .before .before .match in
     c .byte-escape .ensures
-    ∙ ap (byteEscape (c .before .before .before .before .before .before .args .in-bytes)) (part-from 1 (c .before .before .before .before .before .before .args .rest .now))
-    ∙ sym (escape-letter _ _ _ (omega arith) (c .before .before .match .keys8))
+    ∙ ap (byteEscape (args .in-bytes)) (part-from 1 (args .rest .now))
+    ∙ sym (escape-letter _ _ _ (omega arith) (the-match .keys8))
 
 returns-10 : tie.Need-returns-10
 unfolding chosen
 returns-10 c =
+    let args = c .before .before .before .before .before .before .args in
+    let the-match = c .before .before .match in
     c .point-escape .ensures
-    ∙ ap (pointEscape (c .before .before .before .before .before .before .args .in-bytes)) (part-from 1 (c .before .before .before .before .before .before .args .rest .now))
-    ∙ sym (escape-letter _ _ _ (omega arith) (c .before .before .match .keys9))
+    ∙ ap (pointEscape (args .in-bytes)) (part-from 1 (args .rest .now))
+    ∙ sym (escape-letter _ _ _ (omega arith) (the-match .keys9))
 
 returns-11 : tie.Need-returns-11
 returns-11 c =

@@ -38,8 +38,13 @@ enum-told : tie.Need-enum-told Inv-loop μ-loop
 enum-told c = search needs
 
 returns-2 : tie.Need-returns-2 Inv-loop μ-loop
-returns-2 c = sym (hex-stops _ _ _ _ (c .before .before .before .before .before .loop-test .taken) (c .before .before .before .before .if1 .left)
-    (sym (c .before .before .hex-digit .ensures) ∙ ap numberOf (c .enum-told .given .1))) ∙ c .before .before .before .before .before .before .loop .inv .2
+returns-2 c =
+    let loop = c .before .before .before .before .before .before .loop in
+    let loop-test = c .before .before .before .before .before .loop-test in
+    let if1 = c .before .before .before .before .if1 in
+    let hex-digit = c .before .before .hex-digit in
+    sym (hex-stops _ _ _ _ (loop-test .taken) (if1 .left)
+    (sym (hex-digit .ensures) ∙ ap numberOf (c .enum-told .given .1))) ∙ loop .inv .2
 
 mul-value : tie.Need-mul-value Inv-loop μ-loop
 mul-value c =
@@ -60,10 +65,14 @@ loop-less c = omega arith
 
 loop-again : tie.Need-loop-again Inv-loop μ-loop
 loop-again c =
-    let e = sym (c .before .before .before .hex-digit .ensures) ∙ ap numberOf (c .before .d .given .1) in (
+    let loop = c .before .before .before .before .before .before .before .loop in
+    let loop-test = c .before .before .before .before .before .before .loop-test in
+    let if1 = c .before .before .before .before .before .if1 in
+    let hex-digit = c .before .before .before .hex-digit in
+    let e = sym (hex-digit .ensures) ∙ ap numberOf (c .before .d .given .1) in (
       omega arith,
-      hex-grows _ _ _ (c .before .before .before .before .before .before .before .loop .inv .1) (hex-lt _ _ e),
-      sym (hex-goes _ _ _ _ (c .before .before .before .before .before .before .loop-test .taken) _ (c .before .before .before .before .before .if1 .left) e) ∙ c .before .before .before .before .before .before .before .loop .inv .2,
+      hex-grows _ _ _ (loop .inv .1) (hex-lt _ _ e),
+      sym (hex-goes _ _ _ _ (loop-test .taken) _ (if1 .left) e) ∙ loop .inv .2,
     )
 
 returns-3 : tie.Need-returns-3 Inv-loop μ-loop

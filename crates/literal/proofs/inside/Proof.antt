@@ -48,16 +48,24 @@ add-n c = omega arith
 
 add-i : tie.Need-add-i Inv-loop μ-loop
 add-i c =
-    let a = c .before .before .before .before .before .before .before .before .before .before .before .before .before .args in
-    let e = here (a .in-bytes) (a .quote) (a .text .now) (c .before .before .before .before .before .before .before .before .before .before .loop .i) _ _ (c .before .before .before .before .before .before .before .piece-at .ensures) (c .before .before .before .before .before .b .given .1) in
-    let b = bounds (a .in-bytes) (a .quote) (a .text .now) (c .before .before .before .before .before .before .before .before .before .before .loop .i) _ e in
+    let args = c .before .before .before .before .before .before .before .before .before .before .before .before .before .args in
+    let loop = c .before .before .before .before .before .before .before .before .before .before .loop in
+    let piece-at = c .before .before .before .before .before .before .before .piece-at in
+    let the-b = c .before .before .before .before .before .b in
+    let a = args in
+    let e = here (a .in-bytes) (a .quote) (a .text .now) (loop .i) _ _ (piece-at .ensures) (the-b .given .1) in
+    let b = bounds (a .in-bytes) (a .quote) (a .text .now) (loop .i) _ e in
     omega arith
 
 add-i-2 : tie.Need-add-i-2 Inv-loop μ-loop
 add-i-2 c =
-    let a = c .before .before .before .before .before .before .before .before .before .before .before .before .before .args in
-    let e = here (a .in-bytes) (a .quote) (a .text .now) (c .before .before .before .before .before .before .before .before .before .before .loop .i) _ _ (c .before .before .before .before .before .before .before .piece-at .ensures) (c .before .before .before .before .before .b .given .1) in
-    let b = bounds (a .in-bytes) (a .quote) (a .text .now) (c .before .before .before .before .before .before .before .before .before .before .loop .i) _ e in
+    let args = c .before .before .before .before .before .before .before .before .before .before .before .before .before .args in
+    let loop = c .before .before .before .before .before .before .before .before .before .before .loop in
+    let piece-at = c .before .before .before .before .before .before .before .piece-at in
+    let the-b = c .before .before .before .before .before .b in
+    let a = args in
+    let e = here (a .in-bytes) (a .quote) (a .text .now) (loop .i) _ _ (piece-at .ensures) (the-b .given .1) in
+    let b = bounds (a .in-bytes) (a .quote) (a .text .now) (loop .i) _ e in
     omega arith
 
 loop-less : tie.Need-loop-less Inv-loop μ-loop
@@ -65,12 +73,18 @@ loop-less c = omega arith
 
 loop-again : tie.Need-loop-again Inv-loop μ-loop
 loop-again c =
-    let a = c .before .before .before .before .before .before .before .before .before .before .before .before .before .args in
-    let e = here (a .in-bytes) (a .quote) (a .text .now) (c .before .before .before .before .before .before .before .before .before .before .loop .i) _ _ (c .before .before .before .before .before .before .before .piece-at .ensures) (c .before .before .before .before .before .b .given .1) in
-    let b = bounds (a .in-bytes) (a .quote) (a .text .now) (c .before .before .before .before .before .before .before .before .before .before .loop .i) _ e in (
+    let args = c .before .before .before .before .before .before .before .before .before .before .before .before .before .args in
+    let loop = c .before .before .before .before .before .before .before .before .before .before .loop in
+    let loop-test = c .before .before .before .before .before .before .before .before .before .loop-test in
+    let piece-at = c .before .before .before .before .before .before .before .piece-at in
+    let the-b = c .before .before .before .before .before .b in
+    let put = c .before .before .put in
+    let a = args in
+    let e = here (a .in-bytes) (a .quote) (a .text .now) (loop .i) _ _ (piece-at .ensures) (the-b .given .1) in
+    let b = bounds (a .in-bytes) (a .quote) (a .text .now) (loop .i) _ e in (
       omega arith,
-      c .before .before .put .kept .0 ∙ c .before .before .before .before .before .before .before .before .before .before .loop .inv .1,
-      goes-on (a .in-bytes) (a .quote) (a .text .now) _ _ _ _ _ _ (c .before .before .before .before .before .before .before .before .before .loop-test .taken) e (c .before .before .put .ensures) refl ∙ c .before .before .before .before .before .before .before .before .before .before .loop .inv .2,
+      put .kept .0 ∙ loop .inv .1,
+      goes-on (a .in-bytes) (a .quote) (a .text .now) _ _ _ _ _ _ (loop-test .taken) e (put .ensures) refl ∙ loop .inv .2,
     )
 
 enum-known-c : tie.Need-enum-known-c Inv-loop μ-loop
@@ -81,16 +95,24 @@ put-point-requires c κs = omega arith
 
 add-i-3 : tie.Need-add-i-3 Inv-loop μ-loop
 add-i-3 c =
-    let a = c .before .before .before .before .before .before .before .before .before .before .before .before .before .args in
-    let e = here (a .in-bytes) (a .quote) (a .text .now) (c .before .before .before .before .before .before .before .before .before .before .loop .i) _ _ (c .before .before .before .before .before .before .before .piece-at .ensures) (c .before .before .before .before .before .c .given .1) in
-    let b = bounds (a .in-bytes) (a .quote) (a .text .now) (c .before .before .before .before .before .before .before .before .before .before .loop .i) _ e in
+    let args = c .before .before .before .before .before .before .before .before .before .before .before .before .before .args in
+    let loop = c .before .before .before .before .before .before .before .before .before .before .loop in
+    let piece-at = c .before .before .before .before .before .before .before .piece-at in
+    let the-c = c .before .before .before .before .before .c in
+    let a = args in
+    let e = here (a .in-bytes) (a .quote) (a .text .now) (loop .i) _ _ (piece-at .ensures) (the-c .given .1) in
+    let b = bounds (a .in-bytes) (a .quote) (a .text .now) (loop .i) _ e in
     omega arith
 
 add-i-4 : tie.Need-add-i-4 Inv-loop μ-loop
 add-i-4 c =
-    let a = c .before .before .before .before .before .before .before .before .before .before .before .before .before .args in
-    let e = here (a .in-bytes) (a .quote) (a .text .now) (c .before .before .before .before .before .before .before .before .before .before .loop .i) _ _ (c .before .before .before .before .before .before .before .piece-at .ensures) (c .before .before .before .before .before .c .given .1) in
-    let b = bounds (a .in-bytes) (a .quote) (a .text .now) (c .before .before .before .before .before .before .before .before .before .before .loop .i) _ e in
+    let args = c .before .before .before .before .before .before .before .before .before .before .before .before .before .args in
+    let loop = c .before .before .before .before .before .before .before .before .before .before .loop in
+    let piece-at = c .before .before .before .before .before .before .before .piece-at in
+    let the-c = c .before .before .before .before .before .c in
+    let a = args in
+    let e = here (a .in-bytes) (a .quote) (a .text .now) (loop .i) _ _ (piece-at .ensures) (the-c .given .1) in
+    let b = bounds (a .in-bytes) (a .quote) (a .text .now) (loop .i) _ e in
     omega arith
 
 loop-less-2 : tie.Need-loop-less-2 Inv-loop μ-loop
@@ -98,14 +120,20 @@ loop-less-2 c = omega arith
 
 loop-again-2 : tie.Need-loop-again-2 Inv-loop μ-loop
 loop-again-2 c =
-    let a = c .before .before .before .before .before .before .before .before .before .before .before .before .before .args in
-    let e = here (a .in-bytes) (a .quote) (a .text .now) (c .before .before .before .before .before .before .before .before .before .before .loop .i) _ _ (c .before .before .before .before .before .before .before .piece-at .ensures) (c .before .before .before .before .before .c .given .1) in
-    let b = bounds (a .in-bytes) (a .quote) (a .text .now) (c .before .before .before .before .before .before .before .before .before .before .loop .i) _ e in (
+    let args = c .before .before .before .before .before .before .before .before .before .before .before .before .before .args in
+    let loop = c .before .before .before .before .before .before .before .before .before .before .loop in
+    let loop-test = c .before .before .before .before .before .before .before .before .before .loop-test in
+    let piece-at = c .before .before .before .before .before .before .before .piece-at in
+    let the-c = c .before .before .before .before .before .c in
+    let put-point = c .before .before .put-point in
+    let a = args in
+    let e = here (a .in-bytes) (a .quote) (a .text .now) (loop .i) _ _ (piece-at .ensures) (the-c .given .1) in
+    let b = bounds (a .in-bytes) (a .quote) (a .text .now) (loop .i) _ e in (
       omega arith,
-      c .before .before .put-point .kept .0 ∙ c .before .before .before .before .before .before .before .before .before .before .loop .inv .1,
-      goes-on (a .in-bytes) (a .quote) (a .text .now) _ _ _ _ _ _ (c .before .before .before .before .before .before .before .before .before .loop-test .taken) e (c .before .before .put-point .ensures .1)
-          (c .before .before .put-point .ensures .0)
-          ∙ c .before .before .before .before .before .before .before .before .before .before .loop .inv .2,
+      put-point .kept .0 ∙ loop .inv .1,
+      goes-on (a .in-bytes) (a .quote) (a .text .now) _ _ _ _ _ _ (loop-test .taken) e (put-point .ensures .1)
+          (put-point .ensures .0)
+          ∙ loop .inv .2,
     )
 
 enum-told : tie.Need-enum-told Inv-loop μ-loop
@@ -116,10 +144,14 @@ same-length c = c .before .before .before .before .before .loop .inv .1
 
 returns : tie.Need-returns Inv-loop μ-loop
 returns c =
-    let a = c .before .before .before .before .before .before .before .before .args in
-    let e = here (a .in-bytes) (a .quote) (a .text .now) (c .before .before .before .before .before .loop .i) _ _ (c .before .before .piece-at .ensures) (c .enum-told .given .1) in
-    goes-bad (a .in-bytes) (a .quote) (a .text .now) _ _ _ (c .before .before .before .before .loop-test .taken) e
-    ∙ c .before .before .before .before .before .loop .inv .2
+    let args = c .before .before .before .before .before .before .before .before .args in
+    let loop = c .before .before .before .before .before .loop in
+    let loop-test = c .before .before .before .before .loop-test in
+    let piece-at = c .before .before .piece-at in
+    let a = args in
+    let e = here (a .in-bytes) (a .quote) (a .text .now) (loop .i) _ _ (piece-at .ensures) (c .enum-told .given .1) in
+    goes-bad (a .in-bytes) (a .quote) (a .text .now) _ _ _ (loop-test .taken) e
+    ∙ loop .inv .2
 
 same-length-2 : tie.Need-same-length-2 Inv-loop μ-loop
 same-length-2 c = c .before .loop .inv .1

@@ -47,9 +47,12 @@ same-length-2 c = search needs
 
 returns-3 : tie.Need-returns-3
 returns-3 c =
-    let a = c .before .before .before .before .before .before .before .before .before .args in
+    let args = c .before .before .before .before .before .before .before .before .before .args in
+    let if2 = c .before .before .before .before .if2 in
+    let quoted2 = c .before .before .quoted2 in
+    let a = args in
     finished (a .text .now) (a .result .now) _ _
-    (c .before .before .quoted2 .ensures ∙ ap (left (a .result .now) 0) (sym (read-string _ (omega arith) (c .before .before .before .before .if2 .left))))
+    (quoted2 .ensures ∙ ap (left (a .result .now) 0) (sym (read-string _ (omega arith) (if2 .left))))
 
 pub parse-python-literal-into-spec : {M : Type 1} → statement M
 parse-python-literal-into-spec =

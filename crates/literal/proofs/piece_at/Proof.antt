@@ -25,18 +25,26 @@ escape-requires c κs = search needs
 
 returns : tie.Need-returns
 returns c =
+    let args = c .before .before .before .before .before .args in
+    let if1 = c .before .before .if1 in
     c .escape .ensures
-    ∙ ap (escape (c .before .before .before .before .before .args .in-bytes)) (part-from 1 (c .before .before .before .before .before .args .rest .now))
-    ∙ sym (piece-escape _ _ _ _ (c .before .before .if1 .taken))
+    ∙ ap (escape (args .in-bytes)) (part-from 1 (args .rest .now))
+    ∙ sym (piece-escape _ _ _ _ (if1 .taken))
 
 returns-2 : tie.Need-returns-2
 returns-2 c = sym (piece-quote _ _ _ _ (c .before .if1 .left) (c .if2 .taken))
 
 returns-3 : tie.Need-returns-3
-returns-3 c = sym (piece-not-ascii _ _ _ _ (c .before .before .before .if1 .left) (c .before .before .if2 .left) (c .before .if3 .taken) (c .if4 .taken))
+returns-3 c =
+    let if1 = c .before .before .before .if1 in
+    let if2 = c .before .before .if2 in
+    sym (piece-not-ascii _ _ _ _ (if1 .left) (if2 .left) (c .before .if3 .taken) (c .if4 .taken))
 
 returns-4 : tie.Need-returns-4
-returns-4 c = sym (piece-ascii _ _ _ _ (c .before .before .before .if1 .left) (c .before .before .if2 .left) (c .before .if3 .taken) (c .if4 .left))
+returns-4 c =
+    let if1 = c .before .before .before .if1 in
+    let if2 = c .before .before .if2 in
+    sym (piece-ascii _ _ _ _ (if1 .left) (if2 .left) (c .before .if3 .taken) (c .if4 .left))
 
 returns-5 : tie.Need-returns-5
 returns-5 c = sym (piece-any _ _ _ _ (c .before .before .if1 .left) (c .before .if2 .left) (c .if3 .left))

@@ -27,18 +27,26 @@ returns-2 c = sym (point-none _ _ (sym (c .before .before .hex-run .ensures) ∙
 
 cast-t8 : tie.Need-cast-t8
 cast-t8 c =
-    let h = hexAfter-lt 4 0 0 _ _ (lit< tt) (sym (c .before .before .before .before .hex-run .ensures) ∙ ap numberOf (c .before .before .v .given .1)) in
+    let hex-run = c .before .before .before .before .hex-run in
+    let v = c .before .before .v in
+    let h = hexAfter-lt 4 0 0 _ _ (lit< tt) (sym (hex-run .ensures) ∙ ap numberOf (v .given .1)) in
     omega arith
 
 returns-3 : tie.Need-returns-3
 returns-3 c =
-    rw (c .before .before .before .before .before .before .if1 .left)
-    (sym (point-surrogate _ _ (sym (c .before .before .before .before .before .hex-run .ensures) ∙ ap numberOf (c .before .before .before .v .given .1)) (omega arith) (omega arith)))
+    let if1 = c .before .before .before .before .before .before .if1 in
+    let hex-run = c .before .before .before .before .before .hex-run in
+    let v = c .before .before .before .v in
+    rw (if1 .left)
+    (sym (point-surrogate _ _ (sym (hex-run .ensures) ∙ ap numberOf (v .given .1)) (omega arith) (omega arith)))
 
 returns-4 : tie.Need-returns-4
 returns-4 c =
-    rw (c .before .before .before .before .before .if1 .left)
-    (sym (point-some _ _ (sym (c .before .before .before .before .hex-run .ensures) ∙ ap numberOf (c .before .before .v .given .1))
+    let if1 = c .before .before .before .before .before .if1 in
+    let hex-run = c .before .before .before .before .hex-run in
+    let v = c .before .before .v in
+    rw (if1 .left)
+    (sym (point-some _ _ (sym (hex-run .ensures) ∙ ap numberOf (v .given .1))
     (⊎-elim (λ w. inl (w .taken)) (λ w. inr (w .1 .left)) (c .if2 .came))))
 
 pub point-escape-spec : {M : Type 1} → statement M

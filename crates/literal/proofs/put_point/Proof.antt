@@ -12,7 +12,8 @@ use Rattle.literal.proofs.put_point.Statement.{statement}
 use Rattle.literal.proofs.put_point.Tie as tie
 
 abbrev Inv-loop : tie.InvT-loop
-Inv-loop result₀ at point bytes len i₀ result i = (i ≤ len) × (length result ≡ length result₀) × (result ≡ sets result₀ at (take i (utf8Of point)))
+Inv-loop result₀ at point bytes len i₀ result i =
+    (i ≤ len) × (length result ≡ length result₀) × (result ≡ sets result₀ at (take i (utf8Of point)))
 
 abbrev μ-loop : tie.MeasureT-loop
 μ-loop result₀ at point bytes len i₀ result i = len - i
@@ -46,15 +47,19 @@ loop-less c = omega arith
 
 loop-again : tie.Need-loop-again Inv-loop μ-loop
 loop-again c =
-    let start = c .before .before .before .before .before .before .before .before .before .args in
-    let here = c .before .before .before .before .before .loop in
-    let n = ap (λ e. e .len) (c .before .before .before .before .before .before .before .encode .ensures) in
+    let args = c .before .before .before .before .before .before .before .before .before .args in
+    let encode = c .before .before .before .before .before .before .before .encode in
+    let loop = c .before .before .before .before .before .loop in
+    let put = c .before .before .put in
+    let start = args in
+    let here = loop in
+    let n = ap (λ e. e .len) (encode .ensures) in
     let h : here .i < length (utf8Of (start .point)) = omega arith in (
       omega arith,
-      c .before .before .put .kept .0 ∙ here .inv .1,
-      c .before .before .put .ensures
+      put .kept .0 ∙ here .inv .1,
+      put .ensures
           ∙ ap₂ (λ (l : List ℕ) (b : ℕ). set l (start .at + here .i) b) (here .inv .2)
-          (encoded-byte (utf8Of (start .point)) _ _ (c .before .before .before .before .before .before .before .encode .ensures) h)
+          (encoded-byte (utf8Of (start .point)) _ _ (encode .ensures) h)
           ∙ sets-more (start .result .now) (start .at) (here .i) (utf8Of (start .point)) h,
     )
 

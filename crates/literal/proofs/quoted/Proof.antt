@@ -22,7 +22,9 @@ is-quote-requires : tie.Need-is-quote-requires
 is-quote-requires c κs = search needs
 
 returns-2 : tie.Need-returns-2
-returns-2 c = bad-start _ _ (no-quote _ _ (c .before .before .before .if1 .left) (sym (c .before .is-quote .ensures) ∙ not-true _ (c .if2 .taken)))
+returns-2 c =
+    let if1 = c .before .before .before .if1 in
+    bad-start _ _ (no-quote _ _ (if1 .left) (sym (c .before .is-quote .ensures) ∙ not-true _ (c .if2 .taken)))
 
 sub-end : tie.Need-sub-end
 sub-end c = search needs
@@ -31,7 +33,11 @@ shared-slice-read-if3 : tie.Need-shared-slice-read-if3
 shared-slice-read-if3 c = search needs
 
 returns-3 : tie.Need-returns-3
-returns-3 c = bad-start _ _ (not-closed _ _ (c .before .before .before .before .before .if1 .left) (sym (c .before .before .before .is-quote .ensures) ∙ not-false _ (c .before .before .if2 .left)) (c .if3 .taken))
+returns-3 c =
+    let if1 = c .before .before .before .before .before .if1 in
+    let is-quote = c .before .before .before .is-quote in
+    let if2 = c .before .before .if2 in
+    bad-start _ _ (not-closed _ _ (if1 .left) (sym (is-quote .ensures) ∙ not-false _ (if2 .left)) (c .if3 .taken))
 
 sub-inside : tie.Need-sub-inside
 sub-inside c = search needs
@@ -50,11 +56,17 @@ same-length c = search needs
 
 returns-4 : tie.Need-returns-4
 returns-4 c =
-    let text = c .before .before .before .before .before .before .before .before .before .before .before .before .before .args .text .now in
-    let q = all-closed (c .before .before .before .before .before .before .before .before .before .before .before .before .before .args .in-bytes) text (c .before .before .before .before .before .before .before .before .before .before .if1 .left) (sym (c .before .before .before .before .before .before .before .before .is-quote .ensures) ∙ not-false _ (c .before .before .before .before .before .before .before .if2 .left)) (c .before .before .before .before .before .if3 .left) in
+    let args = c .before .before .before .before .before .before .before .before .before .before .before .before .before .args in
+    let if1 = c .before .before .before .before .before .before .before .before .before .before .if1 in
+    let is-quote = c .before .before .before .before .before .before .before .before .is-quote in
+    let if2 = c .before .before .before .before .before .before .before .if2 in
+    let if3 = c .before .before .before .before .before .if3 in
+    let the-inside = c .before .before .inside in
+    let text = args .text .now in
+    let q = all-closed (args .in-bytes) text (if1 .left) (sym (is-quote .ensures) ∙ not-false _ (if2 .left)) (if3 .left) in
     let n : length text - 1 - 1 ≡ length text - 2 = omega arith in
-    c .before .before .inside .ensures
-    ∙ ap (left (c .before .before .before .before .before .before .before .before .before .before .before .before .before .args .result .now) 0) (rw n (sym q))
+    the-inside .ensures
+    ∙ ap (left (args .result .now) 0) (rw n (sym q))
 
 pub quoted-spec : {M : Type 1} → statement M
 quoted-spec =
