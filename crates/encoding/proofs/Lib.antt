@@ -1,0 +1,3 @@
+-- What the proofs of several functions use: one turn of a walk and of an encoding, on lists.
+pub mod Walking
+pub mod Encoding

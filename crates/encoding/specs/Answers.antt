@@ -1,0 +1,34 @@
+-- The values of this crate's types as those of the definitions: a walk, a match, and what an encoding answers, each of whose cases has
+-- document 01's number and values. Assumes nothing.
+use mathlib.Core.Bool.{cond}
+use mathlib.Core.List.{List}
+use Prim.Native.Nat.{ℕ}
+use lib.Bits.{bitXor}
+use lib.ListN.{getD}
+use Rattle.spec.specs.Answer as spec
+use Rattle.spec.specs.Match as spec-match
+use Rattle.spec.specs.Match.{goes}
+use Rattle.encoding.specs.declared.Walk.{Walk}
+use Rattle.encoding.specs.declared.Match.{Match}
+use Rattle.encoding.specs.declared.Match.the-variants.{Found, Nothing}
+use Rattle.encoding.specs.declared.Encoded.{Encoded}
+use Rattle.encoding.specs.declared.Encoded.the-variants.{Whole, ShortMemory, NoToken, Full}
+
+abbrev pub walkOf : Walk → spec-match.Walk
+walkOf k = record { id = k .id; len = k .len; used = k .used; base = k .base }
+
+abbrev pub matchOf : Match → spec-match.Match
+matchOf (Found id len) = spec-match.found id len
+matchOf Nothing = spec-match.nothing
+
+-- 0, 1, 22 and 23, with what each carries
+abbrev pub answerOf : Encoded → spec.Answer
+answerOf (Whole count) = spec.whole count
+answerOf ShortMemory = spec.bare 1
+answerOf (NoToken count offset byte) = record { number = 22; count = count; place = offset; value = byte }
+answerOf (Full count offset) = record { number = 23; count = count; place = offset; value = 0 }
+
+-- the word that byte b leads to from a base; 0, which "means nothing", where it leads nowhere
+unfoldable pub child : List ℕ → ℕ → ℕ → ℕ
+unfolding goes
+child table base b = let w = getD table (bitXor base b) 0 in cond (goes w b) w 0
