@@ -1,13 +1,15 @@
 -- Whole encoding, one token at a time: what stands in the output before each position, and what an end there answers. Assumes nothing.
 use mathlib.Core.Path.{_≡_, refl, sym, ap, ap₂, _∙_, subst}
-use mathlib.Core.Bool.{Bool, true, false}
+use mathlib.Core.Bool.{Bool, true, false, _||_, true≢false}
 use mathlib.Core.List.{List, [], _∷_, _++_, append-nil, append-assoc}
 use Prim.Native.Nat.{ℕ, zero, suc, pred, _+_, _-_, _≤_, _<_}
 use native.Mathlib.Omega.{arith}
 use native.Mathlib.Nat.{add-zero, add-suc, suc-add}
 use native.Mathlib.Numerals.{add-one}
+use lib.Dec.{ltb}
 use lib.ListN.{length, take, drop, set, getD, length-drop, length-set, drop-of-length-le, take-append-drop}
 use lib.Seq.{drop-cons, drop-nil, drop-drop, drop-set-lt, take-suc-set, length-take-le}
+use borrow.Author.Tests.{ltb-false}
 use Rattle.spec.specs.Lists.{over}
 use Rattle.spec.specs.Answer.{Answer, bare}
 use Rattle.spec.specs.Memory.{Memory, tooShort}
@@ -47,9 +49,19 @@ module _ (m : Memory) (src : List ℕ) (i : ℕ) where
     ends-unmatched n e = ap (encodeAt m n i 0) cons ∙ rw (ap (matchOn m) (sym cons) ∙ e, encodeAt)
 
     module _ (id len : ℕ) (e : matchOn m (drop i src) ≡ found id len) where
-      pub ends-full : encodeAt m 0 i 0 (drop i src) ≡ endedWith (full i)
+      -- the position moves, and stays within the input
+      pub moves : (i < i + len) × (i + len ≤ length src)
+      moves =
+          let w = match-within m (drop i src) id len e in
+          let l = length-drop i src in
+          (omega (arith, w .0), omega (arith, w .1))
+
+      pub ends-full : (n : ℕ) → n ≡ 0 → encodeAt m n i 0 (drop i src) ≡ endedWith (full i)
       unfolding encodeAt
-      ends-full = ap (encodeAt m 0 i 0) cons ∙ rw (ap (matchOn m) (sym cons) ∙ e, encodeAt)
+      ends-full n z =
+          ap (λ (k : ℕ). encodeAt m k i 0 (drop i src)) z
+          ∙ ap (encodeAt m 0 i 0) cons
+          ∙ rw (ap (matchOn m) (sym cons) ∙ e, encodeAt)
 
       hands-out : (n : ℕ) → encodeAt m (suc n) i 0 (drop i src) ≡ encoded id (encodeAt m n (i + len) 0 (drop (i + len) src))
       unfolding encodeAt
@@ -88,11 +100,9 @@ module _ (m : Memory) (src lent out : List ℕ) (i n : ℕ) (st : Stands m src l
   pub stands-next : i < length src → n < length out → (id len : ℕ) → matchOn m (drop i src) ≡ found id len
       → Stands m src lent (set out n id) (i + len) (n + 1)
   stands-next here room id len e =
-      let le = match-within m (drop i src) id len e .1 in
-      let rest = length-drop i src in
       let same = st .long in
       record {
-        place = omega (arith, st .place);
+        place = moves m src i here id len e .1;
         count = omega arith;
         long = length-set out n id ∙ st .long;
         others =
@@ -138,6 +148,28 @@ module _ (m : Memory) (src lent out : List ℕ) (i n : ℕ) (st : Stands m src l
   answers t e h =
       rw (t, encodeOn, ends-here e h)
       (ap (λ (k : ℕ). encodeAnswer k e) (sym counted), cells)
+
+-- ---- number 1
+
+-- memory that is not too short
+pub long-enough : (m : Memory) → tooShort m ≡ false → (256 ≤ length (m .single)) × (65536 ≤ length (m .roots))
+unfolding tooShort
+long-enough m t =
+    ( ltb-false (length (m .single)) 256 (or-false-l a (b || d) t)
+    , ltb-false (length (m .roots)) 65536 (or-false-r b d (or-false-r a (b || d) t)) )
+  where
+    a : Bool
+    a = ltb (length (m .single)) 256
+    b : Bool
+    b = ltb (length (m .offsets)) 65537
+    d : Bool
+    d = ltb (length (m .roots)) 65536
+    or-false-l : (x y : Bool) → (x || y) ≡ false → x ≡ false
+    or-false-l true y e = e
+    or-false-l false y e = refl
+    or-false-r : (x y : Bool) → (x || y) ≡ false → y ≡ false
+    or-false-r true y e = absurd (true≢false e)
+    or-false-r false y e = e
 
 -- number 1 leaves everything as it was
 pub refuses : (m : Memory) (src lent : List ℕ) → tooShort m ≡ true

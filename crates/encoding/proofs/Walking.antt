@@ -326,6 +326,22 @@ module _ (m : Memory) (a : ℕ) (s : List ℕ) where
   unfolding matchOn
   match-one h = rw (eq-eqb (walked .id) 0 h, matchOn)
 
+-- at a place of the input, k being the walk from there
+module _ (m : Memory) (src : List ℕ) (i : ℕ) (here : i < length src) (k : Walk) (walks : k ≡ walkOn m (drop i src)) where
+  abbrev cons : drop i src ≡ getD src i 0 ∷ drop (suc i) src
+  cons = drop-cons src i 0 here
+
+  abbrev same-id : k .id ≡ walked m (getD src i 0) (drop (suc i) src) .id
+  same-id = ap (λ (x : Walk). x .id) (walks ∙ ap (walkOn m) cons)
+
+  pub at-long : (k .id ≡ 0 → ⊥) → found (k .id) (k .len) ≡ matchOn m (drop i src)
+  at-long h =
+      ap (λ (x : Walk). found (x .id) (x .len)) (walks ∙ ap (walkOn m) cons)
+      ∙ sym (ap (matchOn m) cons ∙ match-long m (getD src i 0) (drop (suc i) src) (λ z. h (same-id ∙ z)))
+
+  pub at-one : k .id ≡ 0 → one (getD (m .single) (getD src i 0) (pos 0)) ≡ matchOn m (drop i src)
+  at-one h = sym (ap (matchOn m) cons ∙ match-one m (getD src i 0) (drop (suc i) src) (sym same-id ∙ h))
+
 one-within : (z : ℤ) (i n : ℕ) → one z ≡ found i n → n ≡ 1
 one-within (pos k) i n e = cc
 one-within (negsuc k) i n e = cc

@@ -158,18 +158,12 @@ pub fn walk_at(roots: &[u64], table: &[u64], src: &[u8], i: usize) -> Walk
     enter_at(table, root, src, i, limit(src.len(), i))
 }
 
-// A byte's entry in `single`.
-fn single_of(single: &[i32], byte: u8) -> i32
+// The match of one byte: its entry in `single`, of which a negative one is none.
+fn one_byte(single: &[i32], byte: u8) -> Match
     requires { ⌜ 256 ≤ length (now single) ⌝ }
-    ensures { λ r. ⌜ r ≡ getD (now (single .entry)) byte (pos 0) ⌝ }
+    ensures { λ r. ⌜ matchOf r ≡ one (getD (now (single .entry)) byte (pos 0)) ⌝ }
 {
-    single[byte as usize]
-}
-
-// The match of one byte, from its entry in `single`: a negative entry is none.
-fn one_byte(id: i32) -> Match
-    ensures { λ r. ⌜ matchOf r ≡ one id ⌝ }
-{
+    let id = single[byte as usize];
     if id >= 0 {
         Match::Found {
             id: id as u32,
@@ -193,7 +187,7 @@ pub fn match_at(single: &[i32], roots: &[u64], table: &[u64], src: &[u8], i: usi
             len: walk.len,
         };
     }
-    one_byte(single_of(single, src[i]))
+    one_byte(single, src[i])
 }
 
 // Whether a token of two or more bytes starts with this byte: its row of roots has a word that is not 0.
