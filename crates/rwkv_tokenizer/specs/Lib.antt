@@ -1,0 +1,2 @@
+-- What the contracts of the exported calls cite beside the definitions of `spec`.
+pub mod Report

@@ -1,0 +1,75 @@
+// Whole encoding.
+ghost use mathlib.Core.Path.{_≡_};
+ghost use lib.ListN.{length};
+ghost use Rattle.spec.specs.Lists.{over};
+ghost use Rattle.spec.specs.Memory.{memory};
+ghost use Rattle.spec.specs.Encode.{encodeOn};
+ghost use Rattle.encoding.specs.Answers.{answerOf};
+ghost use Rattle.rwkv_tokenizer.specs.Report.{answerIs, reportOf};
+use encoding::Encoded;
+use crate::report;
+use crate::report::Answer;
+
+// An encoding's answer, with its number.
+fn numbered(encoded: Encoded) -> Answer
+    ensures { λ r. ⌜ answerIs r ≡ answerOf encoded ⌝ }
+{
+    match encoded {
+        Encoded::Whole { count } => Answer {
+            number: 0,
+            count: count as u64,
+            place: 0,
+            value: 0,
+        },
+        Encoded::ShortMemory => Answer {
+            number: 1,
+            count: 0,
+            place: 0,
+            value: 0,
+        },
+        Encoded::NoToken {
+            count,
+            offset,
+            byte,
+        } => Answer {
+            number: 22,
+            count: count as u64,
+            place: offset as u64,
+            value: byte as u64,
+        },
+        Encoded::Full { count, offset } => Answer {
+            number: 23,
+            count: count as u64,
+            place: offset as u64,
+            value: 0,
+        },
+    }
+}
+
+// The ids of src, written from out's start. The report: count, offset, byte.
+#[no_mangle]
+pub extern "C" fn rwkv_encode(
+    single: &[i32],
+    offsets: &[u32],
+    blob: &[u8],
+    roots: &[u64],
+    table: &[u64],
+    src: &[u8],
+    out: &mut [u32],
+    report: &mut [u64; 3],
+) -> u32
+    ensures number { λ r. ⌜ r ≡ encodeOn
+        (memory (now (single .entry)) (now (offsets .entry)) (now (blob .entry)) (now (roots .entry)) (now (table .entry)))
+        (length (now (out .entry))) (now (src .entry)) .answer .number ⌝ }
+    ensures report { λ _. ⌜ now (report .exit) ≡ reportOf (encodeOn
+        (memory (now (single .entry)) (now (offsets .entry)) (now (blob .entry)) (now (roots .entry)) (now (table .entry)))
+        (length (now (out .entry))) (now (src .entry)) .answer) ⌝ }
+    ensures cells { λ _. ⌜ now (out .exit) ≡ over (encodeOn
+        (memory (now (single .entry)) (now (offsets .entry)) (now (blob .entry)) (now (roots .entry)) (now (table .entry)))
+        (length (now (out .entry))) (now (src .entry)) .cells) (now (out .entry)) ⌝ }
+{
+    let encoded = encoding::encode_sequential_bytes(single, offsets, blob, roots, table, src, out);
+    let answer = numbered(encoded);
+    report::write_report(answer, report);
+    answer.number
+}
