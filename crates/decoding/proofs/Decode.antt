@@ -162,8 +162,8 @@ pub record Written (m : Memory) (ids : List ℕ) (k n total : ℕ) (before after
   pub kept : drop total after ≡ drop total before
 
 module _ (offsets blob ids : List ℕ) (k n : ℕ) where
-  -- what a turn knows of the id at k, and that its bytes fit, since those of all ids do
-  pub record Turn (total : ℕ) : Type 0 where
+  -- what is known of the id at k, and that its bytes fit, since those of all ids do
+  pub record NextToken (total : ℕ) : Type 0 where
     pub here : k < length ids
     pub paired : getD ids k 0 + 1 < length offsets
     pub ordered : getD offsets (getD ids k 0) 0 ≤ getD offsets (getD ids k 0 + 1) 0
@@ -175,8 +175,8 @@ module _ (offsets blob ids : List ℕ) (k n : ℕ) where
         lookup (tokens offsets blob) (getD ids k 0)
         ≡ take (getD offsets (getD ids k 0 + 1) 0 - getD offsets (getD ids k 0) 0) (drop (getD offsets (getD ids k 0) 0) blob)
 
-  pub turn : (count total : ℕ) → Joined (tokens offsets blob) ids count total → Joined (tokens offsets blob) ids k n → k < count → Turn total
-  turn count total all j h =
+  pub next-token : (count total : ℕ) → Joined (tokens offsets blob) ids count total → Joined (tokens offsets blob) ids k n → k < count → NextToken total
+  next-token count total all j h =
       let m = tokens offsets blob in
       let some = all .present k h in
       let p = present m (getD ids k 0) some in

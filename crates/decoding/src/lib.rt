@@ -2,7 +2,7 @@
 ghost use mathlib.Core.Path.{_≡_};
 ghost use mathlib.Core.List.{[]};
 ghost use Prim.Native.Nat.{_+_, _-_, _<_, _≤_};
-ghost use lib.ListN.{length, take, drop};
+ghost use lib.ListN.{length, take, getD};
 ghost use Rattle.spec.specs.Lists.{each, over};
 ghost use Rattle.spec.specs.Memory.{memory, tooShort};
 ghost use Rattle.spec.specs.Decode.{lookup as lookupOf, decodeOn, decodeTextOn};
@@ -84,7 +84,28 @@ fn measure(offsets: &[u32], blob: &[u8], ids: &[u32], room: usize) -> Decoded
     Decoded::Whole { len }
 }
 
-// Writes the bytes of the first count ids, total in all, over the first cells of out. A lookup is not tested again.
+// Where a token's bytes stand in the blob.
+struct Part {
+    start: usize,
+    len: usize,
+}
+
+// The span of an id that is known to have one, without the lookup's tests.
+fn part_of(offsets: &[u32], id: u32) -> Part
+    requires { ⌜ (id + 1 < length (now offsets)) × (getD (now offsets) id 0 ≤ getD (now offsets) (id + 1) 0) ⌝ }
+    ensures { λ r. ⌜ (r .start ≡ getD (now (offsets .entry)) id 0)
+        × (r .len ≡ getD (now (offsets .entry)) (id + 1) 0 - getD (now (offsets .entry)) id 0) ⌝ }
+{
+    let i = id as usize;
+    let start = offsets[i] as usize;
+    let end = offsets[i + 1] as usize;
+    Part {
+        start,
+        len: end - start,
+    }
+}
+
+// Writes the bytes of the first count ids, total in all, over the first cells of out.
 fn write_tokens(
     offsets: &[u32],
     blob: &[u8],
@@ -94,16 +115,15 @@ fn write_tokens(
     total: usize,
 )
     requires { ⌜ Joined (tokens (now offsets) (now blob)) (now ids) count total × (total ≤ length (now out)) ⌝ }
-    ensures { λ r. ⌜ now (out .exit) ≡ over (each (lookupOf (tokens (now (offsets .entry)) (now (blob .entry)))) (take count (now (ids .entry)))) (now (out .entry)) ⌝ }
+    ensures { λ r. ⌜ now (out .exit) ≡ over
+        (each (lookupOf (tokens (now (offsets .entry)) (now (blob .entry)))) (take count (now (ids .entry)))) (now (out .entry)) ⌝ }
 {
     let mut index: usize = 0;
     let mut at: usize = 0;
     while index < count {
-        let i = ids[index] as usize;
-        let start = offsets[i] as usize;
-        let len = offsets[i + 1] as usize - start;
-        copy::copy_token(blob, start, len, out, at, total);
-        at += len;
+        let part = part_of(offsets, ids[index]);
+        copy::copy_token(blob, part.start, part.len, out, at, total);
+        at += part.len;
         index += 1;
     }
 }
