@@ -33,7 +33,7 @@ use Rattle.decoding.specs.declared.Decoded.{Decoded}
 use Rattle.decoding.specs.declared.Decoded.the-variants.{Whole, ShortMemory, Absent, Full}
 use Rattle.decoding.specs.Answers.{answerOf, takenOf, Answered}
 use Rattle.decoding.specs.Copy.{Placed}
-use Rattle.decoding.specs.Span.{Present, HasSpan, present}
+use Rattle.decoding.specs.Span.{Present, present}
 use Rattle.decoding.specs.Measured.{tokens, Joined, Measured}
 
 module _ (m : Memory) (n k i : ℕ) (ids : List ℕ) where
@@ -161,39 +161,25 @@ pub record Written (m : Memory) (ids : List ℕ) (k n total : ℕ) (before after
   pub bytes : take n after ≡ each (lookup m) (take k ids)
   pub kept : drop total after ≡ drop total before
 
-module _ (offsets blob ids : List ℕ) (k n : ℕ) where
-  -- what is known of the id at k, and that its bytes fit, since those of all ids do
-  pub record NextToken (total : ℕ) : Type 0 where
-    pub here : k < length ids
-    pub paired : getD ids k 0 + 1 < length offsets
-    pub ordered : getD offsets (getD ids k 0) 0 ≤ getD offsets (getD ids k 0 + 1) 0
-    pub inside : getD offsets (getD ids k 0 + 1) 0 ≤ length blob
-    pub room : n + (getD offsets (getD ids k 0 + 1) 0 - getD offsets (getD ids k 0) 0) ≤ total
-    pub some : 1 ≤ length (lookup (tokens offsets blob) (getD ids k 0))
-    pub size : length (lookup (tokens offsets blob) (getD ids k 0)) ≡ getD offsets (getD ids k 0 + 1) 0 - getD offsets (getD ids k 0) 0
-    pub bytes :
-        lookup (tokens offsets blob) (getD ids k 0)
-        ≡ take (getD offsets (getD ids k 0 + 1) 0 - getD offsets (getD ids k 0) 0) (drop (getD offsets (getD ids k 0) 0) blob)
+-- what is known of the id at k, and that its bytes fit, since those of all ids do
+pub record NextToken (m : Memory) (ids : List ℕ) (k n total : ℕ) : Type 0 where
+  pub here : k < length ids
+  pub some : 1 ≤ length (lookup m (getD ids k 0))
+  pub token : Present m (getD ids k 0)
+  pub room : n + length (lookup m (getD ids k 0)) ≤ total
 
-  pub next-token : (count total : ℕ) → Joined (tokens offsets blob) ids count total → Joined (tokens offsets blob) ids k n → k < count → NextToken total
-  next-token count total all j h =
-      let m = tokens offsets blob in
-      let some = all .present k h in
-      let p = present m (getD ids k 0) some in
-      let s = p .span in
-      let next = joined-more m ids k n j (omega (arith, all .within)) some in
-      let fewer = each-fewer (lookup m) ids (k + 1) count (omega arith) in
-      let gap : p .len ≡ getD offsets (getD ids k 0 + 1) 0 - getD offsets (getD ids k 0) 0 = omega (arith, s .first, s .last) in
-      record {
-        here = omega (arith, all .within);
-        paired = s .paired;
-        ordered = omega (arith, s .first, s .last);
-        inside = omega (arith, s .last, s .inside);
-        room = omega (arith, next .count, all .count, p .size);
-        some = some;
-        size = p .size ∙ gap;
-        bytes = rw (← gap, s .first) (p .bytes);
-      }
+pub next-token : (m : Memory) (ids : List ℕ) (k n count total : ℕ) → Joined m ids count total → Joined m ids k n → k < count
+    → NextToken m ids k n total
+next-token m ids k n count total all j h =
+    let some = all .present k h in
+    let next = joined-more m ids k n j (omega (arith, all .within)) some in
+    let fewer = each-fewer (lookup m) ids (k + 1) count (omega arith) in
+    record {
+      here = omega (arith, all .within);
+      some = some;
+      token = present m (getD ids k 0) some;
+      room = omega (arith, next .count, all .count);
+    }
 
 pub written-none : (m : Memory) (ids : List ℕ) (total : ℕ) (before : List ℕ) → Written m ids 0 0 total before before
 unfolding each
@@ -231,24 +217,24 @@ module _ (single : List ℤ) (offsets blob roots table : List ℕ) where
   unfolding tooShort
   short-same = refl
 
-  pub lookup-same : (i : ℕ) → lookup (memory single offsets blob roots table) i ≡ lookup (tokens offsets blob) i
+  pub lookup-same : lookup (memory single offsets blob roots table) ≡ lookup (tokens offsets blob)
   unfolding lookup
-  lookup-same i = refl
+  lookup-same = refl
 
   -- one id, given the same of those after it
   same-step : (n k i : ℕ) (ids : List ℕ)
       → ((n k : ℕ) → decodeAt (memory single offsets blob roots table) n k ids ≡ decodeAt (tokens offsets blob) n k ids)
       → (l : List ℕ) → lookup (tokens offsets blob) i ≡ l → (c : Bool) → leb (length l) n ≡ c
       → decodeAt (memory single offsets blob roots table) n k (i ∷ ids) ≡ decodeAt (tokens offsets blob) n k (i ∷ ids)
-  same-step n k i ids after [] e c h = decode-absent _ n k i ids (lookup-same i ∙ e) ∙ sym (decode-absent _ n k i ids e)
+  same-step n k i ids after [] e c h = decode-absent _ n k i ids (ap (λ (f : ℕ → List ℕ). f i) lookup-same ∙ e) ∙ sym (decode-absent _ n k i ids e)
   same-step n k i ids after (b ∷ bs) e true h =
       let fits = leb-true (length (b ∷ bs)) n h in
-      decode-fits _ n k i ids (b ∷ bs) (lookup-same i ∙ e) (omega arith) fits
+      decode-fits _ n k i ids (b ∷ bs) (ap (λ (f : ℕ → List ℕ). f i) lookup-same ∙ e) (omega arith) fits
       ∙ ap (decoded (b ∷ bs)) (after (n - length (b ∷ bs)) (suc k))
       ∙ sym (decode-fits _ n k i ids (b ∷ bs) e (omega arith) fits)
   same-step n k i ids after (b ∷ bs) e false h =
       let over = leb-false (length (b ∷ bs)) n h in
-      decode-full _ n k i ids (b ∷ bs) (lookup-same i ∙ e) (omega arith) over
+      decode-full _ n k i ids (b ∷ bs) (ap (λ (f : ℕ → List ℕ). f i) lookup-same ∙ e) (omega arith) over
       ∙ sym (decode-full _ n k i ids (b ∷ bs) e (omega arith) over)
 
   decodeAt-same : (n k : ℕ) (ids : List ℕ) → decodeAt (memory single offsets blob roots table) n k ids ≡ decodeAt (tokens offsets blob) n k ids

@@ -2,3 +2,4 @@
 pub mod Paste
 pub mod Decode
 pub mod Text
+pub mod Reading

@@ -3,3 +3,4 @@ pub mod Answers
 pub mod Span
 pub mod Copy
 pub mod Measured
+pub mod Lossy

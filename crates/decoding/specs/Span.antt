@@ -156,23 +156,26 @@ span-size m i start len h =
 pub span-absent : (m : Memory) (i : ℕ) → spanOf (m .offsets) (m .blob) i ≡ Absent → lookup m i ≡ []
 span-absent m i h = sym (span-lookup m i) ∙ ap (spanBytes (m .blob)) h
 
--- what an id with bytes has
+-- An id with bytes has them between its two offsets, in the blob.
 pub record Present (m : Memory) (i : ℕ) : Type 0 where
-  pub start : ℕ
-  pub len : ℕ
-  pub span : HasSpan (m .offsets) (m .blob) i start len
-  pub bytes : lookup m i ≡ take len (drop start (m .blob))
-  pub size : length (lookup m i) ≡ len
+  pub paired : i + 1 < length (m .offsets)
+  pub ordered : getD (m .offsets) i 0 ≤ getD (m .offsets) (i + 1) 0
+  pub inside : getD (m .offsets) (i + 1) 0 ≤ length (m .blob)
+  pub bytes : lookup m i ≡ take (getD (m .offsets) (i + 1) 0 - getD (m .offsets) i 0) (drop (getD (m .offsets) i 0) (m .blob))
+  pub size : length (lookup m i) ≡ getD (m .offsets) (i + 1) 0 - getD (m .offsets) i 0
 
 pub present : (m : Memory) (i : ℕ) → 1 ≤ length (lookup m i) → Present m i
 present m i h = go (spanOf (m .offsets) (m .blob) i) refl
   where
     go : (r : Span) → spanOf (m .offsets) (m .blob) i ≡ r → Present m i
-    go (Token start len) e = record {
-      start = start;
-      len = len;
-      span = has-span (m .offsets) (m .blob) i start len e;
-      bytes = span-found m i start len e;
-      size = span-size m i start len e;
-    }
+    go (Token start len) e =
+        let s = has-span (m .offsets) (m .blob) i start len e in
+        let gap : getD (m .offsets) (i + 1) 0 - getD (m .offsets) i 0 ≡ len = omega (arith, s .first, s .last) in
+        record {
+          paired = s .paired;
+          ordered = omega (arith, s .first, s .last);
+          inside = omega (arith, s .last, s .inside);
+          bytes = rw (gap, s .first) (span-found m i start len e);
+          size = span-size m i start len e ∙ sym gap;
+        }
     go Absent e = let z : ⊥ = omega (arith, ap length (span-absent m i e)) in absurd z

@@ -8,7 +8,7 @@ ghost use lib.Seq.{paste};
 ghost use Rattle.decoding.specs.Copy.{Placed};
 
 // len bytes, one by one.
-fn copy_bytes(src: &[u8], start: usize, len: usize, dst: &mut [u8], at: usize)
+pub fn copy_bytes(src: &[u8], start: usize, len: usize, dst: &mut [u8], at: usize)
     requires { ⌜ (start + len ≤ length (now src)) × (at + len ≤ length (now dst)) ⌝ }
     ensures { λ r. ⌜ now (dst .exit) ≡ paste (now (dst .entry)) at (drop start (now (src .entry))) len ⌝ }
 {

@@ -22,28 +22,30 @@ loop-holds c = (zero-le, written-none _ _ _ _)
 
 -- src/lib.rt:124:37
 mul-part-of : tie.Need-mul-part-of Inv-loop μ-loop
-mul-part-of c = omega (arith, next-token (c .before .before .before .before .before .before .args .offsets .now) (c .before .before .before .before .before .before .args .blob .now) (c .before .before .before .before .before .before .args .ids .now) (c .before .loop .index) (c .before .loop .at) (c .before .before .before .before .before .before .args .count) (c .before .before .before .before .before .before .args .total) (c .before .before .before .before .before .before .pre .0) (c .before .loop .inv .1 .joined) (c .loop-test .taken) .here)
+mul-part-of c = omega (arith, next-token (tokens (c .before .before .before .before .before .before .args .offsets .now) (c .before .before .before .before .before .before .args .blob .now)) (c .before .before .before .before .before .before .args .ids .now) (c .before .loop .index) (c .before .loop .at) (c .before .before .before .before .before .before .args .count) (c .before .before .before .before .before .before .args .total) (c .before .before .before .before .before .before .pre .0) (c .before .loop .inv .1 .joined) (c .loop-test .taken) .here)
 
 -- src/lib.rt:124:37
 shared-slice-read-part-of : tie.Need-shared-slice-read-part-of Inv-loop μ-loop
-shared-slice-read-part-of c = next-token (c .before .before .before .before .before .before .before .args .offsets .now) (c .before .before .before .before .before .before .before .args .blob .now) (c .before .before .before .before .before .before .before .args .ids .now) (c .before .before .loop .index) (c .before .before .loop .at) (c .before .before .before .before .before .before .before .args .count) (c .before .before .before .before .before .before .before .args .total) (c .before .before .before .before .before .before .before .pre .0) (c .before .before .loop .inv .1 .joined) (c .before .loop-test .taken) .here
+shared-slice-read-part-of c = next-token (tokens (c .before .before .before .before .before .before .before .args .offsets .now) (c .before .before .before .before .before .before .before .args .blob .now)) (c .before .before .before .before .before .before .before .args .ids .now) (c .before .before .loop .index) (c .before .before .loop .at) (c .before .before .before .before .before .before .before .args .count) (c .before .before .before .before .before .before .before .args .total) (c .before .before .before .before .before .before .before .pre .0) (c .before .before .loop .inv .1 .joined) (c .before .loop-test .taken) .here
 
 -- src/lib.rt:124:13
 part-of-requires : tie.Need-part-of-requires Inv-loop μ-loop
-part-of-requires c κs = 
-    let t = next-token (c .before .before .before .before .before .before .before .args .offsets .now) (c .before .before .before .before .before .before .before .args .blob .now) (c .before .before .before .before .before .before .before .args .ids .now) (c .before .before .loop .index) (c .before .before .loop .at) (c .before .before .before .before .before .before .before .args .count) (c .before .before .before .before .before .before .before .args .total) (c .before .before .before .before .before .before .before .pre .0) (c .before .before .loop .inv .1 .joined) (c .before .loop-test .taken) in
-    (t .paired, t .ordered)
+part-of-requires c κs =
+    let t = next-token (tokens (c .before .before .before .before .before .before .before .args .offsets .now) (c .before .before .before .before .before .before .before .args .blob .now)) (c .before .before .before .before .before .before .before .args .ids .now) (c .before .before .loop .index) (c .before .before .loop .at) (c .before .before .before .before .before .before .before .args .count) (c .before .before .before .before .before .before .before .args .total) (c .before .before .before .before .before .before .before .pre .0) (c .before .before .loop .inv .1 .joined) (c .before .loop-test .taken) in
+    (t .token .paired, t .token .ordered)
 
 -- src/lib.rt:125:9
 copy-token-requires : tie.Need-copy-token-requires Inv-loop μ-loop
-copy-token-requires c κs = 
-    let t = next-token (c .before .before .before .before .before .before .before .before .before .args .offsets .now) (c .before .before .before .before .before .before .before .before .before .args .blob .now) (c .before .before .before .before .before .before .before .before .before .args .ids .now) (c .before .before .before .before .loop .index) (c .before .before .before .before .loop .at) (c .before .before .before .before .before .before .before .before .before .args .count) (c .before .before .before .before .before .before .before .before .before .args .total) (c .before .before .before .before .before .before .before .before .before .pre .0) (c .before .before .before .before .loop .inv .1 .joined) (c .before .before .before .loop-test .taken) in
+copy-token-requires c κs =
+    let t = next-token (tokens (c .before .before .before .before .before .before .before .before .before .args .offsets .now) (c .before .before .before .before .before .before .before .before .before .args .blob .now)) (c .before .before .before .before .before .before .before .before .before .args .ids .now) (c .before .before .before .before .loop .index) (c .before .before .before .before .loop .at) (c .before .before .before .before .before .before .before .before .before .args .count) (c .before .before .before .before .before .before .before .before .before .args .total) (c .before .before .before .before .before .before .before .before .before .pre .0) (c .before .before .before .before .loop .inv .1 .joined) (c .before .before .before .loop-test .taken) in
     let p = c .before .part-of .ensures in
-    (omega (arith, t .inside, t .ordered, p .0, p .1), omega (arith, t .room, p .1), omega (arith, c .before .before .before .before .loop .inv .1 .same, c .before .before .before .before .before .before .before .before .before .pre .1))
+    (omega (arith, t .token .inside, t .token .ordered, p .0, p .1), omega (arith, t .room, t .token .size, p .1), omega (arith, c .before .before .before .before .loop .inv .1 .same, c .before .before .before .before .before .before .before .before .before .pre .1))
 
 -- src/lib.rt:126:9
 add-at : tie.Need-add-at Inv-loop μ-loop
-add-at c = omega (arith, next-token (c .before .before .before .before .before .before .before .before .before .before .before .before .before .args .offsets .now) (c .before .before .before .before .before .before .before .before .before .before .before .before .before .args .blob .now) (c .before .before .before .before .before .before .before .before .before .before .before .before .before .args .ids .now) (c .before .before .before .before .before .before .before .before .loop .index) (c .before .before .before .before .before .before .before .before .loop .at) (c .before .before .before .before .before .before .before .before .before .before .before .before .before .args .count) (c .before .before .before .before .before .before .before .before .before .before .before .before .before .args .total) (c .before .before .before .before .before .before .before .before .before .before .before .before .before .pre .0) (c .before .before .before .before .before .before .before .before .loop .inv .1 .joined) (c .before .before .before .before .before .before .before .loop-test .taken) .room, c .before .before .before .before .before .part-of .ensures .1, c .before .before .before .before .before .before .before .before .before .before .before .before .before .pre .1)
+add-at c =
+    let t = next-token (tokens (c .before .before .before .before .before .before .before .before .before .before .before .before .before .args .offsets .now) (c .before .before .before .before .before .before .before .before .before .before .before .before .before .args .blob .now)) (c .before .before .before .before .before .before .before .before .before .before .before .before .before .args .ids .now) (c .before .before .before .before .before .before .before .before .loop .index) (c .before .before .before .before .before .before .before .before .loop .at) (c .before .before .before .before .before .before .before .before .before .before .before .before .before .args .count) (c .before .before .before .before .before .before .before .before .before .before .before .before .before .args .total) (c .before .before .before .before .before .before .before .before .before .before .before .before .before .pre .0) (c .before .before .before .before .before .before .before .before .loop .inv .1 .joined) (c .before .before .before .before .before .before .before .loop-test .taken) in
+    omega (arith, t .room, t .token .size, c .before .before .before .before .before .part-of .ensures .1, c .before .before .before .before .before .before .before .before .before .before .before .before .before .pre .1)
 
 -- src/lib.rt:127:9
 add-index : tie.Need-add-index Inv-loop μ-loop
@@ -55,16 +57,17 @@ loop-less c = omega arith
 
 -- src/lib.rt:123:5
 loop-again : tie.Need-loop-again Inv-loop μ-loop
-loop-again c = 
+loop-again c =
     let a = c .before .before .before .before .before .before .before .before .before .before .before .before .before .args in
     let l = c .before .before .before .before .before .before .before .before .loop in
     let m = tokens (a .offsets .now) (a .blob .now) in
     let p = c .before .before .before .before .before .part-of .ensures in
-    let t = next-token (c .before .before .before .before .before .before .before .before .before .before .before .before .before .args .offsets .now) (c .before .before .before .before .before .before .before .before .before .before .before .before .before .args .blob .now) (c .before .before .before .before .before .before .before .before .before .before .before .before .before .args .ids .now) (c .before .before .before .before .before .before .before .before .loop .index) (c .before .before .before .before .before .before .before .before .loop .at) (c .before .before .before .before .before .before .before .before .before .before .before .before .before .args .count) (c .before .before .before .before .before .before .before .before .before .before .before .before .before .args .total) (c .before .before .before .before .before .before .before .before .before .before .before .before .before .pre .0) (c .before .before .before .before .before .before .before .before .loop .inv .1 .joined) (c .before .before .before .before .before .before .before .loop-test .taken) in
-    (omega arith,
-     rw (p .1, ← t .size)
-     (written-more m (a .ids .now) (l .index) (l .at) (a .total) (a .out .now) (l .out) (l .inv .1) _ (t .here) (t .some) (c .before .before .before .copy-token .kept .1 .1 .1 .0)
-      (rw (t .bytes, ← p .1, ← p .0) (c .before .before .before .copy-token .ensures))))
+    let t = next-token (tokens (c .before .before .before .before .before .before .before .before .before .before .before .before .before .args .offsets .now) (c .before .before .before .before .before .before .before .before .before .before .before .before .before .args .blob .now)) (c .before .before .before .before .before .before .before .before .before .before .before .before .before .args .ids .now) (c .before .before .before .before .before .before .before .before .loop .index) (c .before .before .before .before .before .before .before .before .loop .at) (c .before .before .before .before .before .before .before .before .before .before .before .before .before .args .count) (c .before .before .before .before .before .before .before .before .before .before .before .before .before .args .total) (c .before .before .before .before .before .before .before .before .before .before .before .before .before .pre .0) (c .before .before .before .before .before .before .before .before .loop .inv .1 .joined) (c .before .before .before .before .before .before .before .loop-test .taken) in (
+      omega arith,
+      rw (p .1, ← t .token .size)
+          (written-more m (a .ids .now) (l .index) (l .at) (a .total) (a .out .now) (l .out) (l .inv .1) _ (t .here) (t .some) (c .before .before .before .copy-token .kept .1 .1 .1 .0)
+          (rw (t .token .bytes, ← p .1, ← p .0) (c .before .before .before .copy-token .ensures))),
+    )
 
 -- src/lib.rt:109:1
 same-length : tie.Need-same-length Inv-loop μ-loop
@@ -72,7 +75,7 @@ same-length c = c .before .loop .inv .1 .same
 
 -- src/lib.rt:109:1
 returns : tie.Need-returns Inv-loop μ-loop
-returns c = 
+returns c =
     let a = c .before .before .before .before .before .before .args in
     let l = c .before .loop in
     let m = tokens (a .offsets .now) (a .blob .now) in

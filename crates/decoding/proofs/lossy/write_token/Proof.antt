@@ -1,0 +1,137 @@
+use mathlib.Core.Path.{_≡_, refl, ap, sym, _∙_}
+use Prim.Native.Nat.{ℕ, _+_, _-_, _≤_, _<_, zero-le}
+use native.Mathlib.Omega.{arith}
+use borrow.Author.Needs.{needs}
+use lib.ListN.{length, take, drop, getD}
+use Rattle.utf8.specs.Reader.{run}
+use Rattle.utf8.specs.Means.{heldOf}
+use Rattle.decoding.specs.Lossy.{put}
+use Rattle.utf8.specs.Means.{pushed-room}
+use Rattle.utf8.specs.declared.Pushed.{Pushed}
+use Rattle.decoding.proofs.Reading.{
+  Writing,
+  writing-none,
+  writing-more,
+  writing-room,
+  writing-all,
+  along-all,
+  pushed-size,
+  part-next,
+  part-done,
+}
+use Rattle.decoding.proofs.lossy.write_token.Statement.{statement}
+use Rattle.decoding.proofs.lossy.write_token.Tie as tie
+use Rattle.decoding.proofs.lossy.write_token.Reads as reads
+use Rattle.decoding.proofs.lossy.write_token.Lts as lts
+use Rattle.decoding.proofs.copy.copy_bytes.Reads as copy-bytes-reads
+use Rattle.utf8.proofs.push.Reads as push-reads
+
+abbrev Inv-loop : tie.InvT-loop
+Inv-loop blob start len out₀ held₀ n₀ k₀ out held n k =
+    (k ≤ len)
+    × Writing (heldOf held₀) (take len (drop start blob)) n₀ out₀ held n (drop k (take len (drop start blob))) out
+
+abbrev μ-loop : tie.MeasureT-loop
+μ-loop blob start len out₀ held₀ n₀ k₀ out held n k = len - k
+
+-- src/lossy.rt:104:5
+loop-holds : tie.Need-loop-holds Inv-loop μ-loop
+loop-holds c = (zero-le, writing-none _ _ _ _ (omega arith))
+
+-- src/lossy.rt:105:44
+add-push : tie.Need-add-push Inv-loop μ-loop
+add-push c = omega arith
+
+-- src/lossy.rt:105:39
+shared-slice-read-push : tie.Need-shared-slice-read-push Inv-loop μ-loop
+shared-slice-read-push c = omega arith
+
+-- src/lossy.rt:105:13
+push-requires : tie.Need-push-requires Inv-loop μ-loop
+push-requires c κs = search needs
+
+-- src/lossy.rt:107:26
+slice-aggregate-copy-bytes : tie.Need-slice-aggregate-copy-bytes Inv-loop μ-loop
+slice-aggregate-copy-bytes c = sym (pushed-size (c .before .before .before .before .before .loop .held) _ (c .before .before .push .result) (c .before .before .push .ensures))
+
+-- src/lossy.rt:107:9
+copy-bytes-requires : tie.Need-copy-bytes-requires Inv-loop μ-loop
+copy-bytes-requires c κs =
+    let a = c .before .before .before .before .before .before .before .before .before .before .args in
+    let l = c .before .before .before .before .before .before .loop in
+    let t = take (a .len) (drop (a .start) (a .blob .now)) in
+    let b = getD (a .blob .now) (a .start + l .k) 0 in
+    let e = part-next (a .blob .now) (a .start) (a .len) (l .k) (omega arith) (omega arith) in
+    let r = c .before .before .before .push .result in
+    let q = c .before .before .before .push .ensures in
+    let w = writing-room (heldOf (a .from .held)) t (a .from .len) (a .out .now) (l .held) (l .n) _ (l .out) (l .inv .1) b _ e r q in
+    let s = pushed-size (l .held) b r q in
+    let few = pushed-room (l .held) b in
+    (omega (arith, ap (λ (x : Pushed). x .len) q), w)
+
+-- src/lossy.rt:108:9
+add-n : tie.Need-add-n Inv-loop μ-loop
+add-n c =
+    let a = c .before .before .before .before .before .before .before .before .before .before .before .before .before .before .args in
+    let l = c .before .before .before .before .before .before .before .before .before .before .loop in
+    let t = take (a .len) (drop (a .start) (a .blob .now)) in
+    let b = getD (a .blob .now) (a .start + l .k) 0 in
+    let e = part-next (a .blob .now) (a .start) (a .len) (l .k) (omega arith) (omega arith) in
+    let r = c .before .before .before .before .before .before .before .push .result in
+    let q = c .before .before .before .before .before .before .before .push .ensures in
+    omega (arith, writing-room (heldOf (a .from .held)) t (a .from .len) (a .out .now) (l .held) (l .n) _ (l .out) (l .inv .1) b _ e r q)
+
+-- src/lossy.rt:110:9
+add-k : tie.Need-add-k Inv-loop μ-loop
+add-k c = omega arith
+
+-- src/lossy.rt:104:5
+loop-less : tie.Need-loop-less Inv-loop μ-loop
+loop-less c = omega arith
+
+-- src/lossy.rt:104:5
+loop-again : tie.Need-loop-again Inv-loop μ-loop
+loop-again c =
+    let a = c .before .before .before .before .before .before .before .before .before .before .before .before .before .before .before .args in
+    let l = c .before .before .before .before .before .before .before .before .before .before .before .loop in
+    let t = take (a .len) (drop (a .start) (a .blob .now)) in
+    let b = getD (a .blob .now) (a .start + l .k) 0 in
+    let e = part-next (a .blob .now) (a .start) (a .len) (l .k) (omega arith) (omega arith) in
+    let r = c .before .before .before .before .before .before .before .before .push .result in
+    let q = c .before .before .before .before .before .before .before .before .push .ensures in
+    (omega arith, writing-more (heldOf (a .from .held)) t (a .from .len) (a .out .now) (l .held) (l .n) _ (l .out) (l .inv .1) b _ e r q _ (c .before .before .before .before .copy-bytes .ensures))
+
+-- src/lossy.rt:94:1
+same-length : tie.Need-same-length Inv-loop μ-loop
+same-length c = c .before .loop .inv .1 .same
+
+-- src/lossy.rt:94:1
+returns : tie.Need-returns Inv-loop μ-loop
+returns c =
+    let a = c .before .before .before .before .before .args in
+    let l = c .before .loop in
+    let t = take (a .len) (drop (a .start) (a .blob .now)) in
+    let w = l .inv .1 in
+    let d = part-done (a .blob .now) (a .start) (a .len) (l .k) (omega arith) (c .loop-test .left) in (
+      along-all (heldOf (a .from .held)) t (a .from .len) (l .held) (l .n) _ d (w .along),
+      writing-all (heldOf (a .from .held)) t (a .from .len) (a .out .now) (l .held) (l .n) _ (l .out) w d,
+    )
+
+pub write-token-spec : {M : Type 1} → statement M
+write-token-spec =
+    tie.close
+    (tie.spec
+    Inv-loop
+    μ-loop
+    loop-holds
+    add-push
+    shared-slice-read-push
+    push-requires
+    slice-aggregate-copy-bytes
+    copy-bytes-requires
+    add-n
+    add-k
+    loop-less
+    loop-again
+    same-length
+    returns)
