@@ -169,7 +169,7 @@ module _ (ts : List Token) where
         subst (λ (z : Write). z .val ≡ tableAt ts (z .at)) (r .2 .2)
         (sym (step-word ts v (r .0) (r .1) l (labels-small ts v (r .0) l k) (label-node (nodes ts) (r .0) l k)))
 
-    in-table : (w : Write) → Mem w writes → w .at < tableWords ts
+    pub in-table : (w : Write) → Mem w writes → w .at < tableWords ts
     unfolding childWrite tableWords words
     in-table w m =
         let r = write-of w m in

@@ -57,7 +57,7 @@ or-test a b i = ap (λ (z : ℕ). eqb z 1) (bit-or a b i) ∙ go (bit a i) (bit 
     go (suc zero) (suc (suc y)) p q = absurd (omega arith)
     go (suc (suc x)) y p q = absurd (omega arith)
 
-bit-of-zero : (j : ℕ) → bit 0 j ≡ 0
+pub bit-of-zero : (j : ℕ) → bit 0 j ≡ 0
 bit-of-zero j = tz-below (suc j) 0 j (subst (λ (z : ℕ). j < z) (sym (trailing-of-zero (suc j))) (omega arith))
 
 -- every bit of a full word is set

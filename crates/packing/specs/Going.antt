@@ -32,7 +32,7 @@ module _ (L : List ℕ → List ℕ) where
   CursorsOk xs C = (l s : ℕ) → l < 256 → 256 ≤ s → s < getD C l 0 * 64 → free L xs (l ∷ []) (bitXor s l) ≡ false
 
   -- every slot before word `from` is taken; `high` is the highest block used, and lies below word `end`
-  pub record Front (xs : List Put) (from high end : ℕ) : Type 0 where
+  pub record FrontOk (xs : List Put) (from high end : ℕ) : Type 0 where
     pub low : 4 ≤ from
     pub full : (s : ℕ) → 256 ≤ s → s < from * 64 → taken L xs s ≡ true
     pub high-is : high ≡ top xs
@@ -41,7 +41,7 @@ module _ (L : List ℕ → List ℕ) where
   -- where the nodes of xs are placed
   pub record Going (xs : List Put) (U B C : List ℕ) (from high end : ℕ) : Type 0 where
     pub small : ByteLabels L
-    pub front : Front xs from high end
+    pub front : FrontOk xs from high end
     pub marks : MarksOk L xs U B end
     pub cursors : CursorsOk xs C
 
@@ -97,7 +97,7 @@ module _ (L : List ℕ → List ℕ) where
     full-refused s t = subst (λ (z : List ℕ). free L xs z (bitXor s (first z)) ≡ false) (sym (shape .1 .1)) (taken-refused L xs (shape .0) (shape .1 .0) s t)
 
     -- all that lies before the start is refused
-    skipped : (C : List ℕ) (from high end : ℕ) → Front xs from high end → CursorsOk xs C
+    skipped : (C : List ℕ) (from high end : ℕ) → FrontOk xs from high end → CursorsOk xs C
         → (s : ℕ) → 256 ≤ s → s < startOn C (L p) from end * 64 → free L xs (L p) (bitXor s (first (L p))) ≡ false
     skipped C from high end F K s a b = go (start-cases C (L p) from end)
       where
@@ -231,8 +231,8 @@ module _ (L : List ℕ → List ℕ) where
     stands-at b i hc C' ec = inl (placed-at xs p some-labels U B C from high end G bounds ls el U' B' C' b hc (with-answer (At b) (sym i)) ec)
 
   -- the first word that is not full, after a node more
-  pub front-then : (xs : List Put) (p : List ℕ) (U B : List ℕ) (from high end b : ℕ) → Front xs from high end → MarksOk L (put L xs p) U B end → from ≤ end → end % 4 ≡ 0
-      → b ≡ choose L xs (L p) → b < end * 64 → Front (put L xs p) (openOn U from end) (max (b / 256) high) end
+  pub front-then : (xs : List Put) (p : List ℕ) (U B : List ℕ) (from high end b : ℕ) → FrontOk xs from high end → MarksOk L (put L xs p) U B end → from ≤ end → end % 4 ≡ 0
+      → b ≡ choose L xs (L p) → b < end * 64 → FrontOk (put L xs p) (openOn U from end) (max (b / 256) high) end
   unfolding put openOn words top marked
   front-then xs p U B from high end b F M fe four eb lt = record {
     low = (let a = F .low in let c = from-le T (end - from) from in omega arith);

@@ -5,3 +5,8 @@ pub mod Find
 pub mod Steps
 pub mod Place
 pub mod Going
+pub mod Table
+pub mod Turns
+pub mod Filled
+pub mod Walk
+pub mod Packs

@@ -3,6 +3,7 @@ use mathlib.Core.Path.{_≡_}
 use mathlib.Core.Bool.{Bool, true, false, not, _||_, cond}
 use mathlib.Core.List.{List, [], _∷_}
 use Prim.Native.Nat.{ℕ, _+_, _-_, _*_, _/_, _%_, _^_, _≤_, _<_}
+use native.Mathlib.Omega.{arith}
 use lib.ListN.{length, getD, set}
 use lib.Bits.{bitXor}
 use lib.Dec.{eqb, leb, ltb}
@@ -65,6 +66,10 @@ abbrev pub Below : ℕ → Placed → Type 0
 Below n (At b) = b < n
 Below n Full = Unit {0}
 
+pub below-le : (p : Placed) (a b : ℕ) → Below a p → a ≤ b → Below b p
+below-le (At x) a b h k = omega arith
+below-le Full a b h k = tt
+
 -- the first word from `from` on that is not full, end if all below that are
 unfoldable pub openOn : List ℕ → ℕ → ℕ → ℕ
 unfolding firstFrom
@@ -81,11 +86,12 @@ startOn C ls from end =
 unfoldable pub rememberOn : List ℕ → List ℕ → ℕ → List ℕ
 rememberOn C ls b = cond (eqb (length ls) 1) (set C (getD ls 0 0) (bitXor b (getD ls 0 0) / 64)) C
 
--- What the search asks: words from `from` up to `end` are there in both runs of marks, whole blocks of four, and every slot is a
+-- What the search asks: words from `from` up to `end` are there in both runs of marks, whole blocks of four, one at least, and every slot is a
 -- number of 32 bits.
 pub record Bounds (U B : List ℕ) (from end : ℕ) : Type 0 where
   pub from-le : from ≤ end
   pub blocks : end % 4 ≡ 0
+  pub some : 4 ≤ end
   pub in-used : end ≤ length U
   pub in-bases : end ≤ length B
   pub small : end * 64 < 2 ^ 32

@@ -24,7 +24,7 @@ place-one-requires c κs =
     let p = c .before .before .before .before .before .before .before .before .pre in
     let e = c .before .before .start-of .ensures in
     let h = start-in (c .before .before .before .before .before .before .before .before .args .cursors .now) (c .before .before .before .before .before .before .before .before .args .labels .now) (c .before .before .before .before .before .before .before .before .args .from) (c .before .before .before .before .before .before .before .before .args .end) (p .0 .from-le) .1 in
-    (record { from-le = omega arith; blocks = p .0 .blocks; in-used = p .0 .in-used; in-bases = p .0 .in-bases; small = p .0 .small }, p .2)
+    (record { from-le = omega arith; blocks = p .0 .blocks; some = p .0 .some; in-used = p .0 .in-used; in-bases = p .0 .in-bases; small = p .0 .small }, p .2)
 
 -- src/lib.rt:205:20
 enum-known-base : tie.Need-enum-known-base
