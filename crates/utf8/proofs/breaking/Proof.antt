@@ -6,11 +6,6 @@ use Rattle.utf8.proofs.Reading.{start-none, start-whole, start-more}
 use borrow.Author.Needs.{needs}
 use Rattle.utf8.proofs.breaking.Statement.{statement}
 use Rattle.utf8.proofs.breaking.Tie as tie
-use Rattle.utf8.proofs.breaking.Reads as reads
-use Rattle.utf8.proofs.breaking.Lts as lts
-use Rattle.utf8.proofs.begun.Reads as begun-reads
-use Rattle.utf8.proofs.fresh.Reads as fresh-reads
-use Rattle.utf8.proofs.lead_of.Reads as lead-of-reads
 
 lead-of-requires : tie.Need-lead-of-requires
 lead-of-requires c κs = search needs
@@ -26,8 +21,8 @@ fresh-requires c κs = search needs
 
 returns : tie.Need-returns
 returns c =
-    rw (c .fresh .ensures)
-    (ap (λ t. pushedAs (broken t)) (start-none (c .before .before .before .before .args .b) (ap leadMeans (sym (c .before .enum-told .given .1)) ∙ c .before .before .before .lead-of .ensures)))
+    let e = ap leadMeans (sym (c .before .enum-told .given .1)) ∙ c .before .before .before .lead-of .ensures in
+    rw (c .fresh .ensures) (ap (λ t. pushedAs (broken t)) (start-none (c .before .before .before .before .args .b) e))
 
 fresh-requires-2 : tie.Need-fresh-requires-2
 fresh-requires-2 c κs = search needs
@@ -37,13 +32,17 @@ begun-requires c κs = search needs
 
 returns-2 : tie.Need-returns-2
 returns-2 c =
-    let e = ap leadMeans (sym (c .before .before .before .more .given .1)) ∙ c .before .before .before .before .before .lead-of .ensures in
-    rw (c .fresh2 .ensures) (ap (λ t. pushedAs (broken t)) (start-whole (c .before .before .before .before .before .before .args .b) _ _ _ e (c .before .if1 .taken)))
+    let d = c .before .before in
+    let e = ap leadMeans (sym (d .before .more .given .1)) ∙ d .before .before .before .lead-of .ensures in
+    let t = start-whole (d .before .before .before .before .args .b) _ _ _ e (c .before .if1 .taken) in
+    rw (c .fresh2 .ensures) (ap (λ t. pushedAs (broken t)) t)
 
 returns-3 : tie.Need-returns-3
 returns-3 c =
-    let e = ap leadMeans (sym (c .before .before .before .more .given .1)) ∙ c .before .before .before .before .before .lead-of .ensures in
-    rw (c .begun .ensures) (ap (λ t. pushedAs (broken t)) (start-more (c .before .before .before .before .before .before .args .b) _ _ _ e (c .before .if1 .left)))
+    let d = c .before .before in
+    let e = ap leadMeans (sym (d .before .more .given .1)) ∙ d .before .before .before .lead-of .ensures in
+    let t = start-more (d .before .before .before .before .args .b) _ _ _ e (c .before .if1 .left) in
+    rw (c .begun .ensures) (ap (λ t. pushedAs (broken t)) t)
 
 pub breaking-spec : {M : Type 1} → statement M
 breaking-spec =

@@ -8,36 +8,36 @@ use Rattle.utf8.proofs.Reading.{held-1, held-2, held-3}
 use borrow.Author.Needs.{needs}
 use Rattle.utf8.proofs.complete.Statement.{statement}
 use Rattle.utf8.proofs.complete.Tie as tie
-use Rattle.utf8.proofs.complete.Reads as reads
-use Rattle.utf8.proofs.complete.Lts as lts
-use Rattle.utf8.proofs.fresh.Reads as fresh-reads
 
 fresh-requires : tie.Need-fresh-requires
 fresh-requires c κs = search needs
 
 returns : tie.Need-returns
 returns c =
-    let x = c .before .before .before .args .held in
-    let b = c .before .before .before .args .b in
-    rw (c .fresh .ensures) (ap (λ h. pushedAs (taken [] (h ++ b ∷ []))) (sym (held-1 (x .len) (x .first) (x .second) (x .third) (c .before .if1 .taken))))
+    let a = c .before .before .before .args in
+    let x = a .held in
+    let e = held-1 (x .len) (x .first) (x .second) (x .third) (c .before .if1 .taken) in
+    rw (c .fresh .ensures) (ap (λ h. pushedAs (taken [] (h ++ a .b ∷ []))) (sym e))
 
 fresh-requires-2 : tie.Need-fresh-requires-2
 fresh-requires-2 c κs = search needs
 
 returns-2 : tie.Need-returns-2
 returns-2 c =
-    let x = c .before .before .before .before .before .args .held in
-    let b = c .before .before .before .before .before .args .b in
-    rw (c .fresh2 .ensures) (ap (λ h. pushedAs (taken [] (h ++ b ∷ []))) (sym (held-2 (x .len) (x .first) (x .second) (x .third) (c .before .if2 .taken))))
+    let a = c .before .before .before .before .before .args in
+    let x = a .held in
+    let e = held-2 (x .len) (x .first) (x .second) (x .third) (c .before .if2 .taken) in
+    rw (c .fresh2 .ensures) (ap (λ h. pushedAs (taken [] (h ++ a .b ∷ []))) (sym e))
 
 fresh-requires-3 : tie.Need-fresh-requires-3
 fresh-requires-3 c κs = search needs
 
 returns-3 : tie.Need-returns-3
 returns-3 c =
-    let x = c .before .before .before .before .before .args .held in
-    let b = c .before .before .before .before .before .args .b in
-    rw (c .fresh3 .ensures) (ap (λ h. pushedAs (taken [] (h ++ b ∷ []))) (sym (held-3 (x .len) (x .first) (x .second) (x .third) (omega arith))))
+    let a = c .before .before .before .before .before .args in
+    let x = a .held in
+    let e = held-3 (x .len) (x .first) (x .second) (x .third) (omega arith) in
+    rw (c .fresh3 .ensures) (ap (λ h. pushedAs (taken [] (h ++ a .b ∷ []))) (sym e))
 
 pub complete-spec : {M : Type 1} → statement M
 complete-spec =

@@ -7,12 +7,6 @@ use Rattle.utf8.specs.Means.{encodedAs}
 use borrow.Author.Needs.{needs}
 use Rattle.utf8.proofs.encode.Statement.{statement}
 use Rattle.utf8.proofs.encode.Tie as tie
-use Rattle.utf8.proofs.encode.Reads as reads
-use Rattle.utf8.proofs.encode.Lts as lts
-use Rattle.utf8.proofs.encode_1.Reads as encode-1-reads
-use Rattle.utf8.proofs.encode_2.Reads as encode-2-reads
-use Rattle.utf8.proofs.encode_3.Reads as encode-3-reads
-use Rattle.utf8.proofs.encode_4.Reads as encode-4-reads
 
 encode-1-requires : tie.Need-encode-1-requires
 encode-1-requires c κs = search needs
@@ -33,7 +27,9 @@ returns-2 : tie.Need-returns-2
 returns-2 c = c .encode-2 .ensures ∙ ap encodedAs (sym (utf8-2 (c .before .before .before .args .c) (omega arith) (omega arith)))
 
 returns-3 : tie.Need-returns-3
-returns-3 c = c .encode-4 .ensures ∙ ap encodedAs (sym (utf8-4 (c .before .before .before .before .before .before .before .args .c) (omega arith) (omega arith)))
+returns-3 c =
+    let e = utf8-4 (c .before .before .before .before .before .before .before .args .c) (omega arith) (omega arith) in
+    c .encode-4 .ensures ∙ ap encodedAs (sym e)
 
 returns-4 : tie.Need-returns-4
 returns-4 c = ap encodedAs (sym (utf8-surrogate (c .before .before .before .before .args .c) (omega arith)))
@@ -43,12 +39,11 @@ returns-5 c = ap encodedAs (sym (utf8-above (c .before .before .before .before .
 
 returns-6 : tie.Need-returns-6
 returns-6 c =
+    let n = c .before .before .before .before .args .c in
+    let e = utf8-3 n (omega arith) in
     c .encode-3 .ensures ∙
     ap encodedAs
-    (sym
-    (⊎-elim (λ w. utf8-3 (c .before .before .before .before .args .c) (omega arith) (omega arith) (omega arith))
-    (λ w. utf8-3 (c .before .before .before .before .args .c) (omega arith) (omega arith) (omega arith))
-    (c .before .if3 .came)))
+    (sym (⊎-elim (λ w. e (omega arith) (omega arith)) (λ w. e (omega arith) (omega arith)) (c .before .if3 .came)))
 
 pub encode-spec : {M : Type 1} → statement M
 encode-spec =

@@ -6,9 +6,6 @@ use Rattle.utf8.proofs.Reading.{held-0, finish-some}
 use borrow.Author.Needs.{needs}
 use Rattle.utf8.proofs.finish.Statement.{statement}
 use Rattle.utf8.proofs.finish.Tie as tie
-use Rattle.utf8.proofs.finish.Reads as reads
-use Rattle.utf8.proofs.finish.Lts as lts
-use Rattle.utf8.proofs.fresh.Reads as fresh-reads
 
 fresh-requires : tie.Need-fresh-requires
 fresh-requires c κs = search needs
@@ -16,7 +13,8 @@ fresh-requires c κs = search needs
 returns : tie.Need-returns
 returns c =
     let x = c .before .before .before .args .held in
-    rw (c .fresh .ensures) (ap (λ h. pushedAs (finishOf h)) (sym (held-0 (x .len) (x .first) (x .second) (x .third) (c .before .if1 .taken))))
+    let e = held-0 (x .len) (x .first) (x .second) (x .third) (c .before .if1 .taken) in
+    rw (c .fresh .ensures) (ap (λ h. pushedAs (finishOf h)) (sym e))
 
 fresh-requires-2 : tie.Need-fresh-requires-2
 fresh-requires-2 c κs = search needs

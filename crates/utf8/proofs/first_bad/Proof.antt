@@ -2,7 +2,8 @@
 -- what is left of the string. Assumes nothing.
 use borrow.Author.Needs.{needs}
 use mathlib.Core.Path.{_≡_, ap, _∙_, sym}
-use Prim.Native.Nat.{_+_, _-_, _≤_, _<_}
+use mathlib.Core.List.{List}
+use Prim.Native.Nat.{ℕ, _+_, _-_, _≤_, _<_}
 use native.Mathlib.Omega.{arith}
 use lib.ListN.{length, drop}
 use Rattle.spec.specs.Utf8.{char, stepOf, firstBad, firstBadFrom, first-bad-zero}
@@ -10,9 +11,6 @@ use Rattle.utf8.specs.Means.{stepMeans}
 use Rattle.utf8.proofs.Steps.{no-char, char-size, ascii-char, first-char, first-other, first-end}
 use Rattle.utf8.proofs.first_bad.Statement.{statement}
 use Rattle.utf8.proofs.first_bad.Tie as tie
-use Rattle.utf8.proofs.first_bad.Reads as reads
-use Rattle.utf8.proofs.first_bad.Lts as lts
-use Rattle.utf8.proofs.step_at.Reads as step-at-reads
 
 abbrev Inv-loop : tie.InvT-loop
 Inv-loop s i₀ i = (i ≤ length s) × (firstBadFrom i (drop i s) ≡ firstBad s)
@@ -20,12 +18,21 @@ Inv-loop s i₀ i = (i ≤ length s) × (firstBadFrom i (drop i s) ≡ firstBad 
 abbrev μ-loop : tie.MeasureT-loop
 μ-loop s i₀ i = length s - i
 
-char-at : (c : tie.After-known-told Inv-loop μ-loop) → stepOf (drop (c .before .before .before .before .before .before .before .loop .i) (c .before .before .before .before .before .before .before .before .before .args .s .now)) ≡ char (c .before .n .given .0 .0)
+-- where a character was found: its number of bytes, its place, and the string
+abbrev size : tie.After-known-told Inv-loop μ-loop → ℕ
+size c = c .before .n .given .0 .0
+
+abbrev place : tie.After-known-told Inv-loop μ-loop → ℕ
+place c = c .before .before .before .before .before .before .before .loop .i
+
+abbrev text : tie.After-known-told Inv-loop μ-loop → List ℕ
+text c = c .before .before .before .before .before .before .before .before .before .args .s .now
+
+char-at : (c : tie.After-known-told Inv-loop μ-loop) → stepOf (drop (place c) (text c)) ≡ char (size c)
 char-at c = sym (c .before .before .before .step-at .ensures) ∙ ap stepMeans (c .before .n .given .1)
 
-size-of : (c : tie.After-known-told Inv-loop μ-loop) →
-    (0 < c .before .n .given .0 .0) × (c .before .before .before .before .before .before .before .loop .i + c .before .n .given .0 .0 ≤ length (c .before .before .before .before .before .before .before .before .before .args .s .now))
-size-of c = char-size (c .before .before .before .before .before .before .before .before .before .args .s .now) (c .before .before .before .before .before .before .before .loop .i) (omega arith) (c .before .n .given .0 .0) (char-at c)
+size-of : (c : tie.After-known-told Inv-loop μ-loop) → (0 < size c) × (place c + size c ≤ length (text c))
+size-of c = char-size (text c) (place c) (omega arith) (size c) (char-at c)
 
 loop-holds : tie.Need-loop-holds Inv-loop μ-loop
 loop-holds c = (omega arith, sym (first-bad-zero _))
@@ -55,7 +62,8 @@ returns : tie.Need-returns Inv-loop μ-loop
 returns c =
     let s = c .before .before .before .before .before .before .before .args .s .now in
     let l = c .before .before .before .before .before .loop in
-    sym (first-other s (l .i) (omega arith) _ (sym (c .before .step-at .ensures)) (no-char (c .before .step-at .result) (c .match .keys2))) ∙ l .inv .1
+    let e = no-char (c .before .step-at .result) (c .match .keys2) in
+    sym (first-other s (l .i) (omega arith) _ (sym (c .before .step-at .ensures)) e) ∙ l .inv .1
 
 add-i-2 : tie.Need-add-i-2 Inv-loop μ-loop
 add-i-2 c = omega (arith, size-of c)
@@ -65,8 +73,8 @@ loop-less-2 c = omega (arith, size-of c)
 
 loop-again-2 : tie.Need-loop-again-2 Inv-loop μ-loop
 loop-again-2 c =
-    let l = c .before .before .before .before .before .before .before .loop in
-    (size-of c .1, sym (first-char (c .before .before .before .before .before .before .before .before .before .args .s .now) (l .i) (omega arith) (c .before .n .given .0 .0) (char-at c)) ∙ l .inv .1)
+    let e = first-char (text c) (place c) (omega arith) (size c) (char-at c) in
+    (size-of c .1, sym e ∙ c .before .before .before .before .before .before .before .loop .inv .1)
 
 returns-2 : tie.Need-returns-2 Inv-loop μ-loop
 returns-2 c =

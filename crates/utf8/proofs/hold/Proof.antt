@@ -6,8 +6,6 @@ use Rattle.utf8.specs.Means.{pushedAs}
 use Rattle.utf8.proofs.Reading.{held-1, held-2}
 use Rattle.utf8.proofs.hold.Statement.{statement}
 use Rattle.utf8.proofs.hold.Tie as tie
-use Rattle.utf8.proofs.hold.Reads as reads
-use Rattle.utf8.proofs.hold.Lts as lts
 
 returns : tie.Need-returns
 returns c =

@@ -4,7 +4,8 @@ use borrow.Author.Needs.{needs}
 use borrow.Author.Tests.{not-true, not-false}
 use mathlib.Core.Path.{_≡_, refl, ap, _∙_, sym}
 use mathlib.Core.Bool.{_&&_}
-use Prim.Native.Nat.{_+_, _-_, _≤_, _<_}
+use mathlib.Core.List.{List}
+use Prim.Native.Nat.{ℕ, _+_, _-_, _≤_, _<_}
 use native.Mathlib.Omega.{arith}
 use lib.ListN.{length, take, drop}
 use Rattle.spec.specs.Utf8.{char, stepOf, pointOf, whiteSpace, blank}
@@ -12,11 +13,6 @@ use Rattle.utf8.specs.Means.{stepMeans}
 use Rattle.utf8.proofs.Steps.{no-char, char-size, blank-at-char, blank-at-other, blank-end}
 use Rattle.utf8.proofs.is_blank.Statement.{statement}
 use Rattle.utf8.proofs.is_blank.Tie as tie
-use Rattle.utf8.proofs.is_blank.Reads as reads
-use Rattle.utf8.proofs.is_blank.Lts as lts
-use Rattle.utf8.proofs.is_white_space.Reads as is-white-space-reads
-use Rattle.utf8.proofs.point_at.Reads as point-at-reads
-use Rattle.utf8.proofs.step_at.Reads as step-at-reads
 
 abbrev Inv-loop : tie.InvT-loop
 Inv-loop line i₀ i = (i ≤ length line) × (blank (drop i line) ≡ blank line)
@@ -24,23 +20,30 @@ Inv-loop line i₀ i = (i ≤ length line) × (blank (drop i line) ≡ blank lin
 abbrev μ-loop : tie.MeasureT-loop
 μ-loop line i₀ i = length line - i
 
-char-at : (c : tie.After-known-told Inv-loop μ-loop) → stepOf (drop (c .before .before .before .before .before .loop .i) (c .before .before .before .before .before .before .before .args .line .now)) ≡ char (c .before .n .given .0 .0)
+-- where a character was found: its number of bytes, its place, and the string
+abbrev size : tie.After-known-told Inv-loop μ-loop → ℕ
+size c = c .before .n .given .0 .0
+
+abbrev place : tie.After-known-told Inv-loop μ-loop → ℕ
+place c = c .before .before .before .before .before .loop .i
+
+abbrev text : tie.After-known-told Inv-loop μ-loop → List ℕ
+text c = c .before .before .before .before .before .before .before .args .line .now
+
+char-at : (c : tie.After-known-told Inv-loop μ-loop) → stepOf (drop (place c) (text c)) ≡ char (size c)
 char-at c = sym (c .before .before .before .step-at .ensures) ∙ ap stepMeans (c .before .n .given .1)
 
-size-of : (c : tie.After-known-told Inv-loop μ-loop) →
-    (0 < c .before .n .given .0 .0) × (c .before .before .before .before .before .loop .i + c .before .n .given .0 .0 ≤ length (c .before .before .before .before .before .before .before .args .line .now))
-size-of c = char-size (c .before .before .before .before .before .before .before .args .line .now) (c .before .before .before .before .before .loop .i) (omega arith) (c .before .n .given .0 .0) (char-at c)
+size-of : (c : tie.After-known-told Inv-loop μ-loop) → (0 < size c) × (place c + size c ≤ length (text c))
+size-of c = char-size (text c) (place c) (omega arith) (size c) (char-at c)
 
 -- what is left is blank if this character is White_Space and what comes after it is blank
 blank-at : (c : tie.After-is-white-space Inv-loop μ-loop) →
-    blank (drop (c .before .before .before .before .before .before .before .loop .i) (c .before .before .before .before .before .before .before .before .before .args .line .now)) ≡
-    c .is-white-space .result && blank (drop (c .before .before .before .before .before .before .before .loop .i + c .before .before .before .n .given .0 .0) (c .before .before .before .before .before .before .before .before .before .args .line .now))
+    let d = c .before .before in
+    blank (drop (place d) (text d)) ≡ c .is-white-space .result && blank (drop (place d + size d) (text d))
 blank-at c =
-    let line = c .before .before .before .before .before .before .before .before .before .args .line .now in
-    let i = c .before .before .before .before .before .before .before .loop .i in
-    let n = c .before .before .before .n .given .0 .0 in
-    let e : c .is-white-space .result ≡ whiteSpace (pointOf (take n (drop i line))) = c .is-white-space .ensures ∙ ap whiteSpace (c .before .point-at .ensures) in
-    blank-at-char line i (omega arith) n (char-at (c .before .before)) ∙ rw e
+    let d = c .before .before in
+    let e = c .is-white-space .ensures ∙ ap whiteSpace (c .before .point-at .ensures) in
+    blank-at-char (text d) (place d) (omega arith) (size d) (char-at d) ∙ ap (λ w. w && blank (drop (place d + size d) (text d))) (sym e)
 
 loop-holds : tie.Need-loop-holds Inv-loop μ-loop
 loop-holds c = (omega arith, refl)
@@ -53,11 +56,10 @@ enum-known-n c = search needs
 
 returns : tie.Need-returns Inv-loop μ-loop
 returns c =
+    let line = c .before .before .before .before .before .args .line .now in
     let l = c .before .before .before .loop in
-    sym
-    (blank-at-other (c .before .before .before .before .before .args .line .now) (l .i) (omega arith) _ (sym (c .before .step-at .ensures))
-    (no-char (c .before .step-at .result) (c .match .keys2))) ∙
-    l .inv .1
+    let e = no-char (c .before .step-at .result) (c .match .keys2) in
+    sym (blank-at-other line (l .i) (omega arith) _ (sym (c .before .step-at .ensures)) e) ∙ l .inv .1
 
 point-at-requires : tie.Need-point-at-requires Inv-loop μ-loop
 point-at-requires c κs = size-of c .1
@@ -78,8 +80,9 @@ loop-less c = omega (arith, size-of (c .before .before .before))
 
 loop-again : tie.Need-loop-again Inv-loop μ-loop
 loop-again c =
+    let d = c .before .before .before in
     let e = not-false (c .before .is-white-space .result) (c .if1 .left) in
-    (size-of (c .before .before .before) .1, (rw e at (sym (blank-at (c .before)))) ∙ c .before .before .before .before .before .before .before .before .loop .inv .1)
+    (size-of d .1, (rw e at (sym (blank-at (c .before)))) ∙ d .before .before .before .before .before .loop .inv .1)
 
 returns-3 : tie.Need-returns-3 Inv-loop μ-loop
 returns-3 c =

@@ -53,7 +53,9 @@ returns-3 c = sym (white-out _ (omega arith))
 
 returns-4 : tie.Need-returns-4
 unfolding whiteRanges
-returns-4 c = none _ (none-of keys _ (c .before .before .before .before .before .before .match .rest .1)) (omega arith) (omega arith) (omega arith)
+returns-4 c =
+    let d = c .before .before .before .before .before .before in
+    none _ (none-of keys _ (d .match .rest .1)) (omega arith) (omega arith) (omega arith)
 
 returns-5 : tie.Need-returns-5
 unfolding whiteSpace all

@@ -6,8 +6,6 @@ use Rattle.utf8.proofs.Steps.{ranges-tail}
 use borrow.Author.Needs.{needs}
 use Rattle.utf8.proofs.later.Statement.{statement}
 use Rattle.utf8.proofs.later.Tie as tie
-use Rattle.utf8.proofs.later.Reads as reads
-use Rattle.utf8.proofs.later.Lts as lts
 
 returns : tie.Need-returns
 returns c =

@@ -1,18 +1,33 @@
 -- `utf8::push` meets its contract: what must follow the held bytes decides. Assumes nothing.
-use mathlib.Core.Path.{refl, ap, _∙_, sym}
+use mathlib.Core.Path.{_≡_, refl, ap, _∙_, sym}
+use mathlib.Core.List.{List}
+use Prim.Native.Nat.{ℕ}
 use native.Mathlib.Omega.{arith}
-use Rattle.utf8.specs.Means.{wantMeans, heldOf, pushedAs}
+use Rattle.utf8.specs.Reader.{wants}
+use Rattle.utf8.specs.Means.{ranges, wantMeans, heldOf, pushedAs}
 use Rattle.utf8.proofs.Reading.{push-alone, push-broken, push-last, push-more, some-held, few-held}
 use borrow.Author.Needs.{needs}
 use Rattle.utf8.proofs.push.Statement.{statement}
 use Rattle.utf8.proofs.push.Tie as tie
-use Rattle.utf8.proofs.push.Reads as reads
-use Rattle.utf8.proofs.push.Lts as lts
-use Rattle.utf8.proofs.alone.Reads as alone-reads
-use Rattle.utf8.proofs.breaking.Reads as breaking-reads
-use Rattle.utf8.proofs.complete.Reads as complete-reads
-use Rattle.utf8.proofs.hold.Reads as hold-reads
-use Rattle.utf8.proofs.wanted.Reads as wanted-reads
+
+-- where something must follow the held bytes: how many bytes and in which range, and the held ones
+abbrev count : tie.After-known-told → ℕ
+count c = c .before .more .given .0 .0
+
+abbrev low : tie.After-known-told → ℕ
+low c = c .before .more .given .0 .1 .0
+
+abbrev high : tie.After-known-told → ℕ
+high c = c .before .more .given .0 .1 .1 .0
+
+abbrev held : tie.After-known-told → List ℕ
+held c = heldOf (c .before .before .before .before .args .held)
+
+abbrev byte : tie.After-known-told → ℕ
+byte c = c .before .before .before .before .args .b
+
+follows : (c : tie.After-known-told) → ranges (count c) (low c) (high c) ≡ wants (held c)
+follows c = ap wantMeans (sym (c .before .more .given .1)) ∙ c .before .before .before .wanted .ensures
 
 wanted-requires : tie.Need-wanted-requires
 wanted-requires c κs = search needs
@@ -37,58 +52,53 @@ alone-requires-2 c κs = search needs
 
 returns-2 : tie.Need-returns-2
 returns-2 c =
-    let a = c .before .before .before .before .before .before .args in
-    let g = c .before .before .before .more .given .0 in
-    let e = ap wantMeans (sym (c .before .before .before .more .given .1)) ∙ c .before .before .before .before .before .wanted .ensures in
-    c .alone2 .ensures ∙ ap pushedAs (push-alone (heldOf (a .held)) (a .b) (g .0) (g .1 .0) (g .1 .1 .0) (c .before .if1 .taken) e)
+    let d = c .before .before in
+    let e = push-alone (held d) (byte d) (count d) (low d) (high d) (c .before .if1 .taken) (follows d) in
+    c .alone2 .ensures ∙ ap pushedAs e
 
 breaking-requires : tie.Need-breaking-requires
 breaking-requires c κs = search needs
 
 returns-3 : tie.Need-returns-3
 returns-3 c =
-    let a = c .before .before .before .before .before .before .before .args in
-    let g = c .before .before .before .before .more .given .0 in
-    let e = ap wantMeans (sym (c .before .before .before .before .more .given .1)) ∙ c .before .before .before .before .before .before .wanted .ensures in
-    c .breaking .ensures ∙ ap pushedAs (push-broken (heldOf (a .held)) (a .b) (g .0) (g .1 .0) (g .1 .1 .0) (c .before .before .if1 .left) e (omega arith))
+    let d = c .before .before .before in
+    let e = push-broken (held d) (byte d) (count d) (low d) (high d) (c .before .before .if1 .left) (follows d) (omega arith) in
+    c .breaking .ensures ∙ ap pushedAs e
 
 breaking-requires-2 : tie.Need-breaking-requires-2
 breaking-requires-2 c κs = search needs
 
 returns-4 : tie.Need-returns-4
 returns-4 c =
-    let a = c .before .before .before .before .before .before .before .before .args in
-    let g = c .before .before .before .before .before .more .given .0 in
-    let e = ap wantMeans (sym (c .before .before .before .before .before .more .given .1)) ∙ c .before .before .before .before .before .before .before .wanted .ensures in
-    c .breaking2 .ensures ∙ ap pushedAs (push-broken (heldOf (a .held)) (a .b) (g .0) (g .1 .0) (g .1 .1 .0) (c .before .before .before .if1 .left) e (omega arith))
+    let d = c .before .before .before .before in
+    let e = push-broken (held d) (byte d) (count d) (low d) (high d) (c .before .before .before .if1 .left) (follows d) (omega arith) in
+    c .breaking2 .ensures ∙ ap pushedAs e
 
 complete-requires : tie.Need-complete-requires
 complete-requires c κs =
-    let x = c .before .before .before .before .before .before .before .before .args .held in
-    let g = c .before .before .before .before .before .more .given .0 in
-    let e = ap wantMeans (sym (c .before .before .before .before .before .more .given .1)) ∙ c .before .before .before .before .before .before .before .wanted .ensures in
-    some-held (x .len) (x .first) (x .second) (x .third) (g .0) (g .1 .0) (g .1 .1 .0) e (c .before .before .before .if1 .left)
+    let d = c .before .before .before .before in
+    let x = d .before .before .before .before .args .held in
+    some-held (x .len) (x .first) (x .second) (x .third) (count d) (low d) (high d) (follows d) (c .before .before .before .if1 .left)
 
 hold-requires : tie.Need-hold-requires
 hold-requires c κs =
-    let x = c .before .before .before .before .before .before .before .before .args .held in
-    let g = c .before .before .before .before .before .more .given .0 in
-    let e = ap wantMeans (sym (c .before .before .before .before .before .more .given .1)) ∙ c .before .before .before .before .before .before .before .wanted .ensures in
-    (some-held (x .len) (x .first) (x .second) (x .third) (g .0) (g .1 .0) (g .1 .1 .0) e (c .before .before .before .if1 .left), few-held (x .len) (x .first) (x .second) (x .third) (g .0) (g .1 .0) (g .1 .1 .0) e (omega arith))
+    let d = c .before .before .before .before in
+    let x = d .before .before .before .before .args .held in (
+      some-held (x .len) (x .first) (x .second) (x .third) (count d) (low d) (high d) (follows d) (c .before .before .before .if1 .left),
+      few-held (x .len) (x .first) (x .second) (x .third) (count d) (low d) (high d) (follows d) (omega arith),
+    )
 
 returns-5 : tie.Need-returns-5
 returns-5 c =
-    let a = c .before .before .before .before .before .before .before .before .before .args in
-    let g = c .before .before .before .before .before .before .more .given .0 in
-    let e = ap wantMeans (sym (c .before .before .before .before .before .before .more .given .1)) ∙ c .before .before .before .before .before .before .before .before .wanted .ensures in
-    c .complete .ensures ∙ ap pushedAs (push-last (heldOf (a .held)) (a .b) (g .0) (g .1 .0) (g .1 .1 .0) (c .before .if4 .taken) e (omega arith))
+    let d = c .before .before .before .before .before in
+    let e = push-last (held d) (byte d) (count d) (low d) (high d) (c .before .if4 .taken) (follows d) (omega arith) in
+    c .complete .ensures ∙ ap pushedAs e
 
 returns-6 : tie.Need-returns-6
 returns-6 c =
-    let a = c .before .before .before .before .before .before .before .before .before .args in
-    let g = c .before .before .before .before .before .before .more .given .0 in
-    let e = ap wantMeans (sym (c .before .before .before .before .before .before .more .given .1)) ∙ c .before .before .before .before .before .before .before .before .wanted .ensures in
-    c .hold .ensures ∙ ap pushedAs (push-more (heldOf (a .held)) (a .b) (g .0) (g .1 .0) (g .1 .1 .0) (omega arith) e (omega arith))
+    let d = c .before .before .before .before .before in
+    let e = push-more (held d) (byte d) (count d) (low d) (high d) (omega arith) (follows d) (omega arith) in
+    c .hold .ensures ∙ ap pushedAs e
 
 pub push-spec : {M : Type 1} → statement M
 push-spec =

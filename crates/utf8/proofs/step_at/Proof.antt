@@ -10,9 +10,6 @@ use Rattle.utf8.specs.Means.{ranges, leadMeans}
 use Rattle.utf8.proofs.Steps.{step-past, step-first, walk-done, walk-cut, walk-bad, walk-on}
 use Rattle.utf8.proofs.step_at.Statement.{statement}
 use Rattle.utf8.proofs.step_at.Tie as tie
-use Rattle.utf8.proofs.step_at.Reads as reads
-use Rattle.utf8.proofs.step_at.Lts as lts
-use Rattle.utf8.proofs.lead_of.Reads as lead-of-reads
 
 abbrev Inv-loop : tie.InvT-loop
 Inv-loop s at more first-low first-high left₀ low₀ high₀ i₀ left low high i =
@@ -46,12 +43,11 @@ add-i c = omega arith
 
 loop-holds : tie.Need-loop-holds Inv-loop μ-loop
 loop-holds c =
-    let a = c .before .before .before .before .before .before .before .args in
-    let z : a .at + 1 - a .at ≡ 1 = omega arith in (
-      omega arith,
-      omega arith,
-      rw z (step-first (a .s .now) (a .at) _ (omega arith) (ap leadMeans (sym (c .before .more .given .1)) ∙ c .before .before .before .lead-of .ensures)),
-    )
+    let d = c .before .before .before .before .before .before .before in
+    let a = d .args in
+    let z : a .at + 1 - a .at ≡ 1 = omega arith in
+    let e = ap leadMeans (sym (c .before .more .given .1)) ∙ c .before .before .before .lead-of .ensures in
+    (omega arith, omega arith, rw z (step-first (a .s .now) (a .at) _ (omega arith) e))
 
 sub-t17 : tie.Need-sub-t17 Inv-loop μ-loop
 sub-t17 c = omega arith
@@ -99,11 +95,9 @@ loop-again : tie.Need-loop-again Inv-loop μ-loop
 loop-again c =
     let a = c .before .before .before .before .before .before .before .before .before .before .before .before .before .before .args in
     let l = c .before .before .before .before .before .before .loop in
-    let z : l .i + 1 - a .at ≡ l .i - a .at + 1 = omega arith in (
-      omega arith,
-      omega arith,
-      rw z (sym (walk-on (l .i - a .at) (l .left) (l .low) (l .high) (a .s .now) (l .i) (omega arith) (omega arith) (omega arith)) ∙ l .inv .2),
-    )
+    let z : l .i + 1 - a .at ≡ l .i - a .at + 1 = omega arith in
+    let e = walk-on (l .i - a .at) (l .left) (l .low) (l .high) (a .s .now) (l .i) (omega arith) (omega arith) (omega arith) in
+    (omega arith, omega arith, rw z (sym e ∙ l .inv .2))
 
 sub-t10 : tie.Need-sub-t10 Inv-loop μ-loop
 sub-t10 c = omega arith

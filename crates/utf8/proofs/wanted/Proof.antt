@@ -8,10 +8,6 @@ use Rattle.utf8.proofs.Reading.{held-0, held-1, held-2, held-3, held-no
 use borrow.Author.Needs.{needs}
 use Rattle.utf8.proofs.wanted.Statement.{statement}
 use Rattle.utf8.proofs.wanted.Tie as tie
-use Rattle.utf8.proofs.wanted.Reads as reads
-use Rattle.utf8.proofs.wanted.Lts as lts
-use Rattle.utf8.proofs.later.Reads as later-reads
-use Rattle.utf8.proofs.lead_of.Reads as lead-of-reads
 
 returns : tie.Need-returns
 returns c =
@@ -30,7 +26,8 @@ enum-told c = search needs
 returns-2 : tie.Need-returns-2
 returns-2 c =
     let x = c .before .before .before .before .before .args .held in
-    held-none (x .len) (x .first) (x .second) (x .third) (c .before .before .before .if1 .left) (ap leadMeans (sym (c .enum-told .given .1)) ∙ c .before .before .lead-of .ensures)
+    let e = ap leadMeans (sym (c .enum-told .given .1)) ∙ c .before .before .lead-of .ensures in
+    held-none (x .len) (x .first) (x .second) (x .third) (c .before .before .before .if1 .left) e
 
 returns-3 : tie.Need-returns-3
 returns-3 c =
@@ -43,11 +40,12 @@ later-requires c κs = search needs
 
 returns-4 : tie.Need-returns-4
 returns-4 c =
-    let x = c .before .before .before .before .before .before .before .before .before .before .before .args .held in
-    let e = ap leadMeans (sym (c .before .before .before .before .before .before .more .given .1)) ∙ c .before .before .before .before .before .before .before .before .lead-of .ensures in
-    let g = c .before .before .before .before .before .before .more .given .0 in
+    let d = c .before .before .before .before .before in
+    let x = d .before .before .before .before .before .before .args .held in
+    let g = d .before .more .given in
+    let e = ap leadMeans (sym (g .1)) ∙ d .before .before .before .lead-of .ensures in
     c .later .ensures ∙
-    sym (drop-ranges 0 (g .0) (g .1 .0) (g .1 .1 .0)) ∙
+    sym (drop-ranges 0 (g .0 .0) (g .0 .1 .0) (g .0 .1 .1 .0)) ∙
     wants-some (x .first) (x .second ∷ []) e ∙
     ap wants (sym (held-2 (x .len) (x .first) (x .second) (x .third) (c .before .if3 .taken)))
 
@@ -56,11 +54,12 @@ later-requires-2 c κs = search needs
 
 returns-5 : tie.Need-returns-5
 returns-5 c =
-    let x = c .before .before .before .before .before .before .before .before .before .before .before .args .held in
-    let e = ap leadMeans (sym (c .before .before .before .before .before .before .more .given .1)) ∙ c .before .before .before .before .before .before .before .before .lead-of .ensures in
-    let g = c .before .before .before .before .before .before .more .given .0 in
+    let d = c .before .before .before .before .before in
+    let x = d .before .before .before .before .before .before .args .held in
+    let g = d .before .more .given in
+    let e = ap leadMeans (sym (g .1)) ∙ d .before .before .before .lead-of .ensures in
     c .later2 .ensures ∙
-    sym (drop-ranges 1 (g .0) (g .1 .0) (g .1 .1 .0)) ∙
+    sym (drop-ranges 1 (g .0 .0) (g .0 .1 .0) (g .0 .1 .1 .0)) ∙
     wants-some (x .first) (x .second ∷ x .third ∷ []) e ∙
     ap wants (sym (held-3 (x .len) (x .first) (x .second) (x .third) (omega arith)))
 
