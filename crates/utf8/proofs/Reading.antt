@@ -1,5 +1,6 @@
 -- The turns of the lossy reader, as the code's tests tell them apart. Assumes nothing.
 use mathlib.Core.Path.{_≡_, refl, ap, _∙_, sym}
+use mathlib.Core.Bool.{true, false}
 use mathlib.Core.Option.{none, some}
 use mathlib.Core.List.{List, [], _∷_, _++_}
 use Prim.Native.Nat.{ℕ, zero, suc, _-_, _≤_, _<_}
@@ -7,7 +8,7 @@ use native.Mathlib.Nat.{sub-zero, zero-sub, suc-sub-suc}
 use native.Mathlib.Omega.{arith}
 use lib.ListN.{length, take, drop, replicate, length-take}
 use lib.Seq.{take-nil, drop-nil}
-use Rattle.spec.specs.Utf8.{Range, _to_, tail, In, Out, inside, outside, after, replacement}
+use Rattle.spec.specs.Utf8.{Range, _to_, within, tail, after, replacement}
 use Rattle.utf8.specs.Reader.{start, broken, taken, pushed, wants, wants-two, pushOf, finishOf}
 use Rattle.utf8.specs.Means.{ranges}
 
@@ -95,19 +96,19 @@ module _ (h : List ℕ) (b n low high : ℕ) where
   unfolding pushOf
   push-alone z e = rw (← e, z)
 
-  pub push-broken : (n ≡ 0 → ⊥) → ranges n low high ≡ wants h → Out (low to high) b → broken (start b) ≡ pushOf h b
+  pub push-broken : (n ≡ 0 → ⊥) → ranges n low high ≡ wants h → within (low to high) b ≡ false → broken (start b) ≡ pushOf h b
   unfolding pushOf
   push-broken z e o = rw (← e) (go n z)
     where
       go : (n : ℕ) → (n ≡ 0 → ⊥) → broken (start b) ≡ pushed (ranges n low high) h b
       go zero z = absurd (z refl)
-      go (suc n) z = rw (outside (low to high) b o)
+      go (suc n) z = rw (o)
 
-  pub push-last : n ≡ 1 → ranges n low high ≡ wants h → In (low to high) b → taken [] (h ++ b ∷ []) ≡ pushOf h b
+  pub push-last : n ≡ 1 → ranges n low high ≡ wants h → within (low to high) b ≡ true → taken [] (h ++ b ∷ []) ≡ pushOf h b
   unfolding pushOf
-  push-last z e o = rw (← e, z, inside (low to high) b o)
+  push-last z e o = rw (← e, z, o)
 
-  pub push-more : 1 < n → ranges n low high ≡ wants h → In (low to high) b →
+  pub push-more : 1 < n → ranges n low high ≡ wants h → within (low to high) b ≡ true →
       record { out = []; held = h ++ b ∷ [] } ≡ pushOf h b
   unfolding pushOf
   push-more z e o = rw (← e) (go n z)
@@ -115,7 +116,7 @@ module _ (h : List ℕ) (b n low high : ℕ) where
       go : (n : ℕ) → 1 < n → record { out = []; held = h ++ b ∷ [] } ≡ pushed (ranges n low high) h b
       go zero z = absurd (omega arith)
       go (suc zero) z = absurd (omega arith)
-      go (suc (suc n)) z = rw (inside (low to high) b o)
+      go (suc (suc n)) z = rw (o)
 
 -- something must follow: something is held; two bytes or more must: at most two are
 module _ (k a b c : ℕ) where

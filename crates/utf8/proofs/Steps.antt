@@ -9,8 +9,8 @@ use native.Mathlib.Numerals.{add-one}
 use native.Mathlib.Omega.{arith}
 use lib.ListN.{length, getD, take, drop, replicate, length-drop, drop-of-length-le}
 use lib.Seq.{drop-cons, drop-drop}
-use Rattle.spec.specs.Utf8.{Range, _to_, tail, grammar, after, Step, char, bad, cut, size, isChar, follow, followed, stepOf}
-use Rattle.spec.specs.Utf8.{In, Out, inside, outside, step-nil, step-cons, step-least, step-within}
+use Rattle.spec.specs.Utf8.{Range, _to_, within, tail, grammar, after, Step, char, bad, cut, size, isChar, follow, followed, stepOf}
+use Rattle.spec.specs.Utf8.{step-nil, step-cons, step-least, step-within}
 use Rattle.spec.specs.Utf8.{firstBadFrom, first-bad-nil, first-bad-char, first-bad-other}
 use Rattle.spec.specs.Utf8.{pointOf, whiteSpace, blank, blank-nil, blank-char, blank-other}
 use denote.Enum.Declared.{tagOf, declared}
@@ -56,15 +56,15 @@ module _ (n left low high : ℕ) (s : List ℕ) (i : ℕ) where
       go zero h = absurd (omega arith)
       go (suc l) h = rw (drop-of-length-le s e)
 
-  pub walk-bad : 0 < left → i < length s → Out (low to high) (getD s i 0) → follow n (ranges left low high) (drop i s) ≡ bad n
+  pub walk-bad : 0 < left → i < length s → within (low to high) (getD s i 0) ≡ false → follow n (ranges left low high) (drop i s) ≡ bad n
   unfolding follow
   walk-bad h e o = go left h
     where
       go : (l : ℕ) → 0 < l → follow n (ranges l low high) (drop i s) ≡ bad n
       go zero h = absurd (omega arith)
-      go (suc l) h = rw (drop-cons s i 0 e, outside (low to high) (getD s i 0) o)
+      go (suc l) h = rw (drop-cons s i 0 e, o)
 
-  pub walk-on : 0 < left → i < length s → In (low to high) (getD s i 0) →
+  pub walk-on : 0 < left → i < length s → within (low to high) (getD s i 0) ≡ true →
       follow n (ranges left low high) (drop i s) ≡ follow (n + 1) (ranges (left - 1) 0x80 0xBF) (drop (i + 1) s)
   unfolding follow
   walk-on h e o = go left h
@@ -73,7 +73,7 @@ module _ (n left low high : ℕ) (s : List ℕ) (i : ℕ) where
       go zero h = absurd (omega arith)
       go (suc l) h =
           let z : suc l - 1 ≡ l = omega arith in
-          rw (drop-cons s i 0 e, inside (low to high) (getD s i 0) o, z, ranges-tail l, add-one n, add-one i)
+          rw (drop-cons s i 0 e, o, z, ranges-tail l, add-one n, add-one i)
 
 pub first-end : (s : List ℕ) (i : ℕ) → length s ≤ i → none ≡ firstBadFrom i (drop i s)
 first-end s i h = rw (drop-of-length-le s h, first-bad-nil i)

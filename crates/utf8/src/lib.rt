@@ -5,7 +5,7 @@ ghost use mathlib.Core.Path.{_≡_};
 ghost use mathlib.Core.List.{[], _∷_, _++_};
 ghost use Prim.Native.Nat.{_+_, _-_, _/_, _%_, _≤_, _<_};
 ghost use lib.ListN.{length, take, drop, replicate};
-ghost use Rattle.spec.specs.Utf8.{tail, after, stepOf, firstBad, utf8Of, pointOf, whiteSpace, blank};
+ghost use Rattle.spec.specs.Utf8.{_to_, within, tail, after, stepOf, firstBad, utf8Of, pointOf, whiteSpace, blank};
 ghost use Rattle.utf8.specs.Means.{leadMeans, stepMeans, textMeans, encodedAs, wantMeans, heldOf, heldAs, pushedAs};
 ghost use Rattle.utf8.specs.Reader.{start, broken, taken, wants, pushOf, finishOf};
 
@@ -34,6 +34,13 @@ fn lead_of(b: u8) -> Lead
     }
 }
 
+// Whether `b` is from `low` to `high`.
+fn in_range(b: u8, low: u8, high: u8) -> bool
+    ensures { λ r. ⌜ r ≡ within (low to high) b ⌝ }
+{
+    low <= b && b <= high
+}
+
 // What stands at a place of a byte string: a character, a maximal ill-formed part, or the beginning of a character that the end
 // cuts off, each with its number of bytes.
 pub enum Step {
@@ -60,10 +67,7 @@ pub fn step_at(s: &[u8], at: usize) -> Step
         if s.len() <= i {
             return Step::Cut(i - at);
         }
-        if s[i] < low {
-            return Step::Bad(i - at);
-        }
-        if high < s[i] {
+        if !in_range(s[i], low, high) {
             return Step::Bad(i - at);
         }
         left -= 1;
@@ -430,10 +434,7 @@ pub fn push(held: Held, b: u8) -> Pushed
     if more == 0 {
         return alone(b);
     }
-    if b < low {
-        return breaking(b);
-    }
-    if high < b {
+    if !in_range(b, low, high) {
         return breaking(b);
     }
     if more == 1 {

@@ -1,4 +1,5 @@
 -- `utf8::push` meets its contract: what must follow the held bytes decides. Assumes nothing.
+use borrow.Author.Tests.{not-true, not-false}
 use mathlib.Core.Path.{_≡_, refl, ap, _∙_, sym}
 use mathlib.Core.List.{List}
 use Prim.Native.Nat.{ℕ}
@@ -56,23 +57,18 @@ returns-2 c =
     let e = push-alone (held d) (byte d) (count d) (low d) (high d) (c .before .if1 .taken) (follows d) in
     c .alone2 .ensures ∙ ap pushedAs e
 
+in-range-requires : tie.Need-in-range-requires
+in-range-requires c κs = search needs
+
 breaking-requires : tie.Need-breaking-requires
 breaking-requires c κs = search needs
 
 returns-3 : tie.Need-returns-3
 returns-3 c =
-    let d = c .before .before .before in
-    let e = push-broken (held d) (byte d) (count d) (low d) (high d) (c .before .before .if1 .left) (follows d) (omega arith) in
-    c .breaking .ensures ∙ ap pushedAs e
-
-breaking-requires-2 : tie.Need-breaking-requires-2
-breaking-requires-2 c κs = search needs
-
-returns-4 : tie.Need-returns-4
-returns-4 c =
     let d = c .before .before .before .before in
-    let e = push-broken (held d) (byte d) (count d) (low d) (high d) (c .before .before .before .if1 .left) (follows d) (omega arith) in
-    c .breaking2 .ensures ∙ ap pushedAs e
+    let e = sym (c .before .before .in-range .ensures) ∙ not-true (c .before .before .in-range .result) (c .before .if2 .taken) in
+    let w = push-broken (held d) (byte d) (count d) (low d) (high d) (c .before .before .before .if1 .left) (follows d) e in
+    c .breaking .ensures ∙ ap pushedAs w
 
 complete-requires : tie.Need-complete-requires
 complete-requires c κs =
@@ -88,17 +84,19 @@ hold-requires c κs =
       few-held (x .len) (x .first) (x .second) (x .third) (count d) (low d) (high d) (follows d) (omega arith),
     )
 
+returns-4 : tie.Need-returns-4
+returns-4 c =
+    let d = c .before .before .before .before .before in
+    let e = sym (c .before .before .before .in-range .ensures) ∙ not-false (c .before .before .before .in-range .result) (c .before .before .if2 .left) in
+    let w = push-last (held d) (byte d) (count d) (low d) (high d) (c .before .if3 .taken) (follows d) e in
+    c .complete .ensures ∙ ap pushedAs w
+
 returns-5 : tie.Need-returns-5
 returns-5 c =
     let d = c .before .before .before .before .before in
-    let e = push-last (held d) (byte d) (count d) (low d) (high d) (c .before .if4 .taken) (follows d) (omega arith) in
-    c .complete .ensures ∙ ap pushedAs e
-
-returns-6 : tie.Need-returns-6
-returns-6 c =
-    let d = c .before .before .before .before .before in
-    let e = push-more (held d) (byte d) (count d) (low d) (high d) (omega arith) (follows d) (omega arith) in
-    c .hold .ensures ∙ ap pushedAs e
+    let e = sym (c .before .before .before .in-range .ensures) ∙ not-false (c .before .before .before .in-range .result) (c .before .before .if2 .left) in
+    let w = push-more (held d) (byte d) (count d) (low d) (high d) (omega arith) (follows d) e in
+    c .hold .ensures ∙ ap pushedAs w
 
 pub push-spec : {M : Type 1} → statement M
 push-spec =
@@ -111,11 +109,10 @@ push-spec =
     returns
     alone-requires-2
     returns-2
+    in-range-requires
     breaking-requires
     returns-3
-    breaking-requires-2
-    returns-4
     complete-requires
     hold-requires
-    returns-5
-    returns-6)
+    returns-4
+    returns-5)

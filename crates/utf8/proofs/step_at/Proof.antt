@@ -1,6 +1,7 @@
 -- `utf8::step_at` meets its contract. The loop's invariant: what is left to follow, from i on, gives the step at `at`. The measure
 -- is the number of bytes that must still follow. Assumes nothing.
 use borrow.Author.Needs.{needs}
+use borrow.Author.Tests.{not-true, not-false}
 use mathlib.Core.Path.{_≡_, ap, _∙_, sym}
 use Prim.Native.Nat.{_+_, _-_, _≤_, _<_}
 use native.Mathlib.Omega.{arith}
@@ -58,29 +59,22 @@ returns-3 c =
     let l = c .before .before .loop in
     sym (walk-cut (l .i - a .at) (l .left) (l .low) (l .high) (a .s .now) (l .i) (omega arith) (omega arith)) ∙ l .inv .2
 
-shared-slice-read-if3 : tie.Need-shared-slice-read-if3 Inv-loop μ-loop
-shared-slice-read-if3 c = omega arith
+shared-slice-read-in-range : tie.Need-shared-slice-read-in-range Inv-loop μ-loop
+shared-slice-read-in-range c = omega arith
 
-sub-t20 : tie.Need-sub-t20 Inv-loop μ-loop
-sub-t20 c = omega arith
+in-range-requires : tie.Need-in-range-requires Inv-loop μ-loop
+in-range-requires c κs = search needs
+
+sub-t21 : tie.Need-sub-t21 Inv-loop μ-loop
+sub-t21 c = omega arith
 
 returns-4 : tie.Need-returns-4 Inv-loop μ-loop
 returns-4 c =
-    let a = c .before .before .before .before .before .before .before .before .before .before .before .before .args in
-    let l = c .before .before .before .before .loop in
-    sym (walk-bad (l .i - a .at) (l .left) (l .low) (l .high) (a .s .now) (l .i) (omega arith) (omega arith) (omega arith)) ∙ l .inv .2
-
-shared-slice-read-if4 : tie.Need-shared-slice-read-if4 Inv-loop μ-loop
-shared-slice-read-if4 c = omega arith
-
-sub-t22 : tie.Need-sub-t22 Inv-loop μ-loop
-sub-t22 c = omega arith
-
-returns-5 : tie.Need-returns-5 Inv-loop μ-loop
-returns-5 c =
-    let a = c .before .before .before .before .before .before .before .before .before .before .before .before .before .before .args in
-    let l = c .before .before .before .before .before .before .loop in
-    sym (walk-bad (l .i - a .at) (l .left) (l .low) (l .high) (a .s .now) (l .i) (omega arith) (omega arith) (omega arith)) ∙ l .inv .2
+    let d = c .before .before .before .before .before .before .before .before in
+    let a = d .before .before .before .before .before .args in
+    let l = c .before .before .before .before .before .loop in
+    let e = sym (c .before .in-range .ensures) ∙ not-true (c .before .in-range .result) (c .if3 .taken) in
+    sym (walk-bad (l .i - a .at) (l .left) (l .low) (l .high) (a .s .now) (l .i) (omega arith) (omega arith) e) ∙ l .inv .2
 
 sub-left : tie.Need-sub-left Inv-loop μ-loop
 sub-left c = omega arith
@@ -93,17 +87,19 @@ loop-less c = omega arith
 
 loop-again : tie.Need-loop-again Inv-loop μ-loop
 loop-again c =
-    let a = c .before .before .before .before .before .before .before .before .before .before .before .before .before .before .args in
-    let l = c .before .before .before .before .before .before .loop in
+    let d = c .before .before .before .before .before .before .before .before in
+    let a = d .before .before .before .before .before .args in
+    let l = c .before .before .before .before .before .loop in
     let z : l .i + 1 - a .at ≡ l .i - a .at + 1 = omega arith in
-    let e = walk-on (l .i - a .at) (l .left) (l .low) (l .high) (a .s .now) (l .i) (omega arith) (omega arith) (omega arith) in
-    (omega arith, omega arith, rw z (sym e ∙ l .inv .2))
+    let e = sym (c .before .in-range .ensures) ∙ not-false (c .before .in-range .result) (c .if3 .left) in
+    let w = walk-on (l .i - a .at) (l .left) (l .low) (l .high) (a .s .now) (l .i) (omega arith) (omega arith) e in
+    (omega arith, omega arith, rw z (sym w ∙ l .inv .2))
 
 sub-t10 : tie.Need-sub-t10 Inv-loop μ-loop
 sub-t10 c = omega arith
 
-returns-6 : tie.Need-returns-6 Inv-loop μ-loop
-returns-6 c =
+returns-5 : tie.Need-returns-5 Inv-loop μ-loop
+returns-5 c =
     let a = c .before .before .before .before .before .before .before .before .before .args in
     let l = c .before .loop in
     sym (walk-done (l .i - a .at) (l .left) (l .low) (l .high) (a .s .now) (l .i) (omega arith)) ∙ l .inv .2
@@ -124,15 +120,13 @@ step-at-spec =
     loop-holds
     sub-t17
     returns-3
-    shared-slice-read-if3
-    sub-t20
+    shared-slice-read-in-range
+    in-range-requires
+    sub-t21
     returns-4
-    shared-slice-read-if4
-    sub-t22
-    returns-5
     sub-left
     add-i-2
     loop-less
     loop-again
     sub-t10
-    returns-6)
+    returns-5)
