@@ -58,8 +58,12 @@ heldOf x = take (x .len) (x .first ∷ x .second ∷ x .third ∷ [])
 abbrev pub heldAs : List ℕ → Held
 heldAs h = record { first = getD h 0 0; second = getD h 1 0; third = getD h 2 0; len = length h }
 
+-- so many bytes go out, and these are held
+abbrev pub bringing : List ℕ → Held → Pushed
+bringing out held = record { bytes = padded 6 out; len = length out; held = held }
+
 abbrev pub pushedAs : Turn → Pushed
-pushedAs t = record { bytes = padded 6 (t .out); len = length (t .out); held = heldAs (t .held) }
+pushedAs t = bringing (t .out) (heldAs (t .held))
 
 -- ── For callers ──────────────────────────────────────────────────────
 

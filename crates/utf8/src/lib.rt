@@ -5,8 +5,8 @@ ghost use mathlib.Core.Path.{_≡_};
 ghost use mathlib.Core.List.{[], _∷_, _++_};
 ghost use Prim.Native.Nat.{_+_, _-_, _/_, _%_, _≤_, _<_};
 ghost use lib.ListN.{length, take, drop, replicate};
-ghost use Rattle.spec.specs.Utf8.{_to_, within, tail, after, stepOf, firstBad, utf8Of, pointOf, whiteSpace, blank};
-ghost use Rattle.utf8.specs.Means.{leadMeans, stepMeans, textMeans, encodedAs, wantMeans, heldOf, heldAs, pushedAs};
+ghost use Rattle.spec.specs.Utf8.{_to_, within, tail, after, stepOf, firstBad, utf8Of, pointOf, whiteSpace, blank, replacement};
+ghost use Rattle.utf8.specs.Means.{leadMeans, stepMeans, textMeans, encodedAs, wantMeans, heldOf, heldAs, bringing, pushedAs};
 ghost use Rattle.utf8.specs.Reader.{start, broken, taken, wants, pushOf, finishOf};
 
 // What the first byte of a character says: so many bytes must follow, the first of them from a low to a high end and the others
@@ -62,20 +62,20 @@ pub fn step_at(s: &[u8], at: usize) -> Step
     let mut left = more;
     let mut low = first_low;
     let mut high = first_high;
-    let mut i = at + 1;
+    let mut n = 1;
     while 0 < left {
-        if s.len() <= i {
-            return Step::Cut(i - at);
+        if s.len() - at <= n {
+            return Step::Cut(n);
         }
-        if !in_range(s[i], low, high) {
-            return Step::Bad(i - at);
+        if !in_range(s[at + n], low, high) {
+            return Step::Bad(n);
         }
         left -= 1;
         low = 0x80;
         high = 0xbf;
-        i += 1;
+        n += 1;
     }
-    Step::Char(i - at)
+    Step::Char(n)
 }
 
 // Whether a byte string is UTF-8, and the first bad offset if not.
@@ -290,16 +290,34 @@ fn begun(b: u8) -> Held
     }
 }
 
+// Nothing goes out.
+fn quiet(held: Held) -> Pushed
+    ensures { λ r. ⌜ r ≡ bringing [] held ⌝ }
+{
+    Pushed {
+        bytes: [0, 0, 0, 0, 0, 0],
+        len: 0,
+        held: held,
+    }
+}
+
+// U+FFFD goes out.
+fn replaced(held: Held) -> Pushed
+    ensures { λ r. ⌜ r ≡ bringing replacement held ⌝ }
+{
+    Pushed {
+        bytes: [0xef, 0xbf, 0xbd, 0, 0, 0],
+        len: 3,
+        held: held,
+    }
+}
+
 // `b` where nothing is held.
 fn alone(b: u8) -> Pushed
     ensures { λ r. ⌜ r ≡ pushedAs (start b) ⌝ }
 {
     let Lead::Follow(more, _, _) = lead_of(b) else {
-        return Pushed {
-            bytes: [0xef, 0xbf, 0xbd, 0, 0, 0],
-            len: 3,
-            held: fresh(),
-        };
+        return replaced(fresh());
     };
     if more == 0 {
         Pushed {
@@ -308,11 +326,7 @@ fn alone(b: u8) -> Pushed
             held: fresh(),
         }
     } else {
-        Pushed {
-            bytes: [0, 0, 0, 0, 0, 0],
-            len: 0,
-            held: begun(b),
-        }
+        quiet(begun(b))
     }
 }
 
@@ -334,11 +348,7 @@ fn breaking(b: u8) -> Pushed
             held: fresh(),
         }
     } else {
-        Pushed {
-            bytes: [0xef, 0xbf, 0xbd, 0, 0, 0],
-            len: 3,
-            held: begun(b),
-        }
+        replaced(begun(b))
     }
 }
 
@@ -402,26 +412,20 @@ fn hold(held: Held, b: u8) -> Pushed
     requires { ⌜ (0 < held .len) × (held .len ≤ 2) ⌝ }
     ensures { λ r. ⌜ r ≡ pushedAs (record { out = []; held = heldOf held ++ b ∷ [] }) ⌝ }
 {
-    let more = if held.len == 1 {
-        Held {
+    if held.len == 1 {
+        return quiet(Held {
             first: held.first,
             second: b,
             third: 0,
             len: 2,
-        }
-    } else {
-        Held {
-            first: held.first,
-            second: held.second,
-            third: b,
-            len: 3,
-        }
-    };
-    Pushed {
-        bytes: [0, 0, 0, 0, 0, 0],
-        len: 0,
-        held: more,
+        });
     }
+    quiet(Held {
+        first: held.first,
+        second: held.second,
+        third: b,
+        len: 3,
+    })
 }
 
 // `b` after the held bytes: what goes out, and what is held.
@@ -449,15 +453,8 @@ pub fn finish(held: Held) -> Pushed
     ensures { λ r. ⌜ r ≡ pushedAs (finishOf (heldOf held)) ⌝ }
 {
     if held.len == 0 {
-        return Pushed {
-            bytes: [0, 0, 0, 0, 0, 0],
-            len: 0,
-            held: fresh(),
-        };
-    }
-    Pushed {
-        bytes: [0xef, 0xbf, 0xbd, 0, 0, 0],
-        len: 3,
-        held: fresh(),
+        quiet(fresh())
+    } else {
+        replaced(fresh())
     }
 }

@@ -18,16 +18,22 @@ enum-told c = search needs
 fresh-requires : tie.Need-fresh-requires
 fresh-requires c κs = search needs
 
+replaced-requires : tie.Need-replaced-requires
+replaced-requires c κs = search needs
+
 returns : tie.Need-returns
 returns c =
-    let e = ap leadMeans (sym (c .before .enum-told .given .1)) ∙ c .before .before .before .lead-of .ensures in
-    rw (c .fresh .ensures) (ap pushedAs (start-none (c .before .before .before .before .args .b) e))
+    let e = ap leadMeans (sym (c .before .before .enum-told .given .1)) ∙ c .before .before .before .before .lead-of .ensures in
+    c .replaced .ensures ∙ rw (c .before .fresh .ensures) (ap pushedAs (start-none (c .before .before .before .before .before .args .b) e))
 
 fresh-requires-2 : tie.Need-fresh-requires-2
 fresh-requires-2 c κs = search needs
 
 begun-requires : tie.Need-begun-requires
 begun-requires c κs = search needs
+
+quiet-requires : tie.Need-quiet-requires
+quiet-requires c κs = search needs
 
 returns-2 : tie.Need-returns-2
 returns-2 c =
@@ -37,9 +43,10 @@ returns-2 c =
 
 returns-3 : tie.Need-returns-3
 returns-3 c =
-    let d = c .before .before in
+    let d = c .before .before .before in
     let e = ap leadMeans (sym (d .before .more .given .1)) ∙ d .before .before .before .lead-of .ensures in
-    rw (c .begun .ensures) (ap pushedAs (start-more (d .before .before .before .before .args .b) _ _ _ e (c .before .if1 .left)))
+    let t = start-more (d .before .before .before .before .args .b) _ _ _ e (c .before .before .if1 .left) in
+    c .quiet .ensures ∙ rw (c .before .begun .ensures) (ap pushedAs t)
 
 pub alone-spec : {M : Type 1} → statement M
 alone-spec =
@@ -49,8 +56,10 @@ alone-spec =
     enum-known-more
     enum-told
     fresh-requires
+    replaced-requires
     returns
     fresh-requires-2
     begun-requires
+    quiet-requires
     returns-2
     returns-3)

@@ -30,6 +30,9 @@ fresh-requires-2 c κs = search needs
 begun-requires : tie.Need-begun-requires
 begun-requires c κs = search needs
 
+replaced-requires : tie.Need-replaced-requires
+replaced-requires c κs = search needs
+
 returns-2 : tie.Need-returns-2
 returns-2 c =
     let d = c .before .before in
@@ -39,10 +42,10 @@ returns-2 c =
 
 returns-3 : tie.Need-returns-3
 returns-3 c =
-    let d = c .before .before in
+    let d = c .before .before .before in
     let e = ap leadMeans (sym (d .before .more .given .1)) ∙ d .before .before .before .lead-of .ensures in
-    let t = start-more (d .before .before .before .before .args .b) _ _ _ e (c .before .if1 .left) in
-    rw (c .begun .ensures) (ap (λ t. pushedAs (broken t)) t)
+    let t = start-more (d .before .before .before .before .args .b) _ _ _ e (c .before .before .if1 .left) in
+    c .replaced .ensures ∙ rw (c .before .begun .ensures) (ap (λ t. pushedAs (broken t)) t)
 
 pub breaking-spec : {M : Type 1} → statement M
 breaking-spec =
@@ -55,5 +58,6 @@ breaking-spec =
     returns
     fresh-requires-2
     begun-requires
+    replaced-requires
     returns-2
     returns-3)

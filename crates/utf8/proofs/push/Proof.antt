@@ -87,14 +87,16 @@ hold-requires c κs =
 returns-4 : tie.Need-returns-4
 returns-4 c =
     let d = c .before .before .before .before .before in
-    let e = sym (c .before .before .before .in-range .ensures) ∙ not-false (c .before .before .before .in-range .result) (c .before .before .if2 .left) in
+    let r = c .before .before .before .in-range in
+    let e = sym (r .ensures) ∙ not-false (r .result) (c .before .before .if2 .left) in
     let w = push-last (held d) (byte d) (count d) (low d) (high d) (c .before .if3 .taken) (follows d) e in
     c .complete .ensures ∙ ap pushedAs w
 
 returns-5 : tie.Need-returns-5
 returns-5 c =
     let d = c .before .before .before .before .before in
-    let e = sym (c .before .before .before .in-range .ensures) ∙ not-false (c .before .before .before .in-range .result) (c .before .before .if2 .left) in
+    let r = c .before .before .before .in-range in
+    let e = sym (r .ensures) ∙ not-false (r .result) (c .before .before .if2 .left) in
     let w = push-more (held d) (byte d) (count d) (low d) (high d) (omega arith) (follows d) e in
     c .hold .ensures ∙ ap pushedAs w
 
