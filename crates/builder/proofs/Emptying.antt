@@ -1,0 +1,52 @@
+-- Runs of one value from the start of each part make the emptied memory. Assumes nothing.
+use mathlib.Core.Path.{_≡_, refl, sym, ap, ap₂, _∙_}
+use mathlib.Core.List.{List, [], _∷_, _++_, append-nil}
+use Prim.Native.Nat.{ℕ, _+_, _≤_}
+use native.Mathlib.Nat.{le-refl}
+use native.Mathlib.Omega.{arith}
+use lib.IntN.{ℤ, negsuc}
+use lib.Dec.{ltb}
+use lib.ListN.{length, drop, replicate, length-replicate}
+use lib.Seq.{sets, sets-eq, drop-length}
+use borrow.Author.Tests.{le-ltb}
+use Rattle.spec.specs.Lists.{over}
+use Rattle.spec.specs.Memory.{Memory, memory, tooShort, emptied}
+use Rattle.laws.specs.Reads.{LongEnough}
+
+-- n cells from the start
+front : {A : Type 0} (l : List A) (n : ℕ) (v : A) → n ≤ length l → sets l 0 (replicate n v) ≡ over (replicate n v) l
+front l n v h =
+    let k = length-replicate n v in
+    let p : 0 + length (replicate n v) ≡ length (replicate n v) = omega arith in
+    sets-eq (replicate n v) l 0 (omega arith) ∙ ap (λ (x : ℕ). replicate n v ++ drop x l) p
+
+-- all of them
+whole : (l : List ℕ) → sets l 0 (replicate (length l) 0) ≡ replicate (length l) 0
+whole l =
+    front l (length l) 0 (le-refl (length l))
+    ∙ ap (λ (x : ℕ). replicate (length l) 0 ++ drop x l) (length-replicate (length l) 0)
+    ∙ ap (λ (x : List ℕ). replicate (length l) 0 ++ x) (drop-length l)
+    ∙ append-nil (replicate (length l) 0)
+
+module _ {s s′ : List ℤ} {os os′ bl bl′ rs rs′ tb tb′ : List ℕ} where
+  -- two memories with the same parts
+  pub same-memory : s ≡ s′ → os ≡ os′ → bl ≡ bl′ → rs ≡ rs′ → tb ≡ tb′ → memory s os bl rs tb ≡ memory s′ os′ bl′ rs′ tb′
+  same-memory a b c d e = cc
+
+module _ (s : List ℤ) (os bl rs tb : List ℕ) (long : LongEnough (memory s os bl rs tb)) where
+  pub all-emptied : {s′ : List ℤ} {os′ bl′ rs′ tb′ : List ℕ} → s′ ≡ sets s 0 (replicate 256 (negsuc 0)) → os′ ≡ sets os 0 (replicate 65537 0)
+      → bl′ ≡ sets bl 0 (replicate (length bl) 0) → rs′ ≡ sets rs 0 (replicate 65536 0) → tb′ ≡ sets tb 0 (replicate (length tb) 0)
+      → memory s′ os′ bl′ rs′ tb′ ≡ emptied (memory s os bl rs tb)
+  unfolding emptied
+  all-emptied a b c d e =
+      same-memory
+      (a ∙ front s 256 (negsuc 0) (long .single))
+      (b ∙ front os 65537 0 (long .offsets))
+      (c ∙ whole bl)
+      (d ∙ front rs 65536 0 (long .roots))
+      (e ∙ whole tb)
+
+-- the last test of number 1
+pub short-roots : (s : List ℤ) (os rs : List ℕ) → 256 ≤ length s → 65537 ≤ length os → ltb (length rs) 65536 ≡ tooShort (memory s os [] rs [])
+unfolding tooShort
+short-roots s os rs h k = rw (le-ltb _ _ h, le-ltb _ _ k)

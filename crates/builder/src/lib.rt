@@ -1,0 +1,247 @@
+// The builder: tokens into the vocabulary memory, one after another.
+mod fill;
+pub mod rules;
+
+ghost use mathlib.Core.Path.{_≡_};
+ghost use mathlib.Core.List.{List, []};
+ghost use Prim.Native.Nat.{ℕ, _+_, _/_, _≤_, _<_, min};
+ghost use lib.IntN.{pos};
+ghost use lib.ListN.{length, drop};
+ghost use lib.Seq.{sets};
+ghost use Rattle.spec.specs.Token.{Token};
+ghost use Rattle.spec.specs.Memory.{memory, tooShort, emptied};
+ghost use Rattle.spec.specs.Load.{lastId};
+ghost use Rattle.laws.specs.Reads.{LongEnough};
+ghost use Rattle.loading.specs.Accepted.{Reads};
+ghost use Rattle.trie.specs.Run.{room};
+ghost use Rattle.trie.specs.Stands.{Grown};
+ghost use Rattle.builder.specs.Built.{Built, Kept, Small, roomFor, PushedAs, isTaken, setSingle, setOffsets};
+
+// Number 1: "`single`, offsets or roots too short".
+pub fn too_short(single: &[i32], offsets: &[u32], roots: &[u64]) -> bool
+    ensures { λ r. ⌜ r ≡ tooShort (memory (now (single .entry)) (now (offsets .entry)) [] (now (roots .entry)) []) ⌝ }
+{
+    if single.len() < 256 {
+        return true;
+    }
+    if offsets.len() < 65537 {
+        return true;
+    }
+    roots.len() < 65536
+}
+
+// "After 3 to 21 the vocabulary memory is emptied: `single` all −1, the rest 0."
+pub fn empty(
+    single: &mut [i32],
+    offsets: &mut [u32],
+    blob: &mut [u8],
+    roots: &mut [u64],
+    table: &mut [u64],
+)
+    requires { ⌜ LongEnough (memory (now single) (now offsets) (now blob) (now roots) (now table)) ⌝ }
+    ensures { λ r. ⌜ memory (now (single .exit)) (now (offsets .exit)) (now (blob .exit)) (now (roots .exit)) (now (table .exit))
+        ≡ emptied (memory (now (single .entry)) (now (offsets .entry)) (now (blob .entry)) (now (roots .entry)) (now (table .entry))) ⌝ }
+{
+    fill::fill_none(single, 256);
+    fill::fill_u32(offsets, 0, 65537, 0);
+    let bytes = blob.len();
+    fill::fill_u8(blob, 0, bytes, 0);
+    fill::fill_u64(roots, 0, 65536, 0);
+    let words = table.len();
+    fill::fill_u64(table, 0, words, 0);
+}
+
+// A build under way: the last id, and how many tokens, nodes (node 0 counted) and blob bytes there are.
+pub struct Build {
+    pub previous: u16,
+    pub tokens: u32,
+    pub made: u32,
+    pub used: u32,
+}
+
+// A build with one more token, or document 01's number of the refusal.
+pub enum Pushed {
+    Taken(Build),
+    Refused(u8),
+}
+
+// The memory emptied, and a build without tokens.
+pub fn begin(
+    single: &mut [i32],
+    offsets: &mut [u32],
+    blob: &mut [u8],
+    roots: &mut [u64],
+    table: &mut [u64],
+) -> Build
+    requires { ⌜ LongEnough (memory (now single) (now offsets) (now blob) (now roots) (now table)) ⌝ }
+    ensures emptied { λ r. ⌜ memory (now (single .exit)) (now (offsets .exit)) (now (blob .exit)) (now (roots .exit)) (now (table .exit))
+        ≡ emptied (memory (now (single .entry)) (now (offsets .entry)) (now (blob .entry)) (now (roots .entry)) (now (table .entry))) ⌝ }
+    ensures stands { λ r. ⌜ ((nodes : List ℕ)
+        → Built [] (now (single .exit)) (now (offsets .exit)) (now (blob .exit)) (now (roots .exit)) nodes r) ⌝ }
+{
+    empty(single, offsets, blob, roots, table);
+    Build {
+        previous: 0,
+        tokens: 0,
+        made: 1,
+        used: 0,
+    }
+}
+
+fn wide(x: u32) -> usize
+    ensures { λ r. ⌜ r ≡ x ⌝ }
+{
+    x as usize
+}
+
+fn place(x: u8) -> usize
+    ensures { λ r. ⌜ r ≡ x ⌝ }
+{
+    x as usize
+}
+
+fn index(x: u16) -> usize
+    ensures { λ r. ⌜ r ≡ x ⌝ }
+{
+    x as usize
+}
+
+fn signed(x: u16) -> i32
+    ensures { λ r. ⌜ r ≡ pos x ⌝ }
+{
+    x as i32
+}
+
+fn narrow(n: usize) -> u32
+    requires { ⌜ n < 4294967296 ⌝ }
+    ensures { λ r. ⌜ r ≡ n ⌝ }
+{
+    n as u32
+}
+
+// Whether a cell of `single` holds an id.
+fn taken(x: i32) -> bool
+    ensures { λ r. ⌜ r ≡ isTaken x ⌝ }
+{
+    0 <= x
+}
+
+// How many nodes a run of this many numbers holds: as many as 32 bits count, and no vocabulary has more.
+fn capacity(numbers: usize) -> u32
+    ensures { λ r. ⌜ r ≡ min (numbers / 6) 4294967295 ⌝ }
+{
+    let nodes = numbers / 6;
+    if nodes < 4294967296 {
+        return narrow(nodes);
+    }
+    4294967295
+}
+
+// A token of one byte has its id in `single`.
+fn set_single(single: &mut [i32], id: u16, bytes: &[u8])
+    requires { ⌜ (256 ≤ length (now single)) × (1 ≤ length (now bytes)) ⌝ }
+    ensures { λ r. ⌜ now (single .exit) ≡ setSingle (now (single .entry)) id (now (bytes .entry)) ⌝ }
+{
+    if bytes.len() == 1 {
+        let i = place(bytes[0]);
+        single[i] = signed(id);
+    }
+}
+
+// The offsets behind the previous id, up to this one: absent ids repeat the total.
+fn set_offsets(offsets: &mut [u32], previous: u16, id: u16, total: u32)
+    requires { ⌜ (65537 ≤ length (now offsets)) × (previous < id) ⌝ }
+    ensures { λ r. ⌜ now (offsets .exit) ≡ setOffsets (now (offsets .entry)) previous id total ⌝ }
+{
+    fill::fill_u32(offsets, index(previous) + 1, index(id - previous), total);
+}
+
+// The token's bytes among the nodes, or 16 or 17. A token of one byte makes no node.
+fn enter(
+    single: &[i32],
+    roots: &mut [u64],
+    nodes: &mut [u32],
+    st: Build,
+    id: u16,
+    bytes: &[u8],
+) -> trie::Inserted
+    requires { ⌜ (256 ≤ length (now single)) × (65536 ≤ length (now roots)) × (1 ≤ length (now bytes)) × (1 ≤ st .made) ⌝ }
+    ensures stands { λ r. ⌜ ((ts : List Token) (os bl : List ℕ)
+        → Built ts (now (single .entry)) os bl (now (roots .entry)) (now (nodes .entry)) st
+        → Reads (lastId ts) (record { id = id; bytes = now (bytes .entry) })
+        → Grown ts (record { id = id; bytes = now (bytes .entry) }) (room (now (nodes .entry))) r (now (roots .exit)) (now (nodes .exit))) ⌝ }
+    ensures kept { λ r. ⌜ drop 65536 (now (roots .exit)) ≡ drop 65536 (now (roots .entry)) ⌝ }
+{
+    let most = capacity(nodes.len());
+    if most < st.made {
+        return trie::Inserted::NoRoom;
+    }
+    if bytes.len() == 1 {
+        let i = place(bytes[0]);
+        if taken(single[i]) {
+            return trie::Inserted::Duplicate;
+        }
+        return trie::Inserted::Made(st.made);
+    }
+    trie::insert(roots, nodes, most, st.made, bytes, id)
+}
+
+// The token's own cells.
+fn write(single: &mut [i32], offsets: &mut [u32], blob: &mut [u8], st: Build, id: u16, bytes: &[u8])
+    requires { ⌜ (256 ≤ length (now single)) × (65537 ≤ length (now offsets)) × (1 ≤ length (now bytes)) × (st .previous < id)
+        × (st .used + length (now bytes) ≤ length (now blob)) ⌝ }
+    ensures single { λ r. ⌜ now (single .exit) ≡ setSingle (now (single .entry)) id (now (bytes .entry)) ⌝ }
+    ensures offsets { λ r. ⌜ now (offsets .exit) ≡ setOffsets (now (offsets .entry)) (st .previous) id (st .used) ⌝ }
+    ensures blob { λ r. ⌜ now (blob .exit) ≡ sets (now (blob .entry)) (st .used) (now (bytes .entry)) ⌝ }
+{
+    set_single(single, id, bytes);
+    set_offsets(offsets, st.previous, id, st.used);
+    fill::copy(blob, wide(st.used), bytes);
+}
+
+// The build with a token of this many bytes more.
+fn counted(st: Build, id: u16, made: u32, len: usize) -> Build
+    requires { ⌜ Small st × (len ≤ 255) ⌝ }
+    ensures { λ r. ⌜ r ≡ record { previous = id; tokens = st .tokens + 1; made = made; used = st .used + len } ⌝ }
+{
+    Build {
+        previous: id,
+        tokens: st.tokens + 1,
+        made,
+        used: st.used + narrow(len),
+    }
+}
+
+// One more token, with an id above the last and 1 to 255 bytes; or 16, 17 or 18.
+pub fn push(
+    single: &mut [i32],
+    offsets: &mut [u32],
+    blob: &mut [u8],
+    roots: &mut [u64],
+    nodes: &mut [u32],
+    st: Build,
+    id: u16,
+    bytes: &[u8],
+) -> Pushed
+    requires { ⌜ LongEnough (memory (now single) (now offsets) [] (now roots) []) × (1 ≤ length (now bytes)) × (length (now bytes) ≤ 255)
+        × (st .previous < id) × Small st ⌝ }
+    ensures stands { λ r. ⌜ ((table : ℕ) (ts : List Token)
+        → Built ts (now (single .entry)) (now (offsets .entry)) (now (blob .entry)) (now (roots .entry)) (now (nodes .entry)) st
+        → PushedAs (roomFor (now (nodes .entry)) (now (blob .entry)) table) ts (record { id = id; bytes = now (bytes .entry) }) r
+        (now (single .exit)) (now (offsets .exit)) (now (blob .exit)) (now (roots .exit)) (now (nodes .exit))) ⌝ }
+    ensures kept { λ r. ⌜ Kept (now (single .entry)) (now (offsets .entry)) (now (roots .entry))
+        (now (single .exit)) (now (offsets .exit)) (now (roots .exit)) ⌝ }
+{
+    let entered = enter(single, roots, nodes, st, id, bytes);
+    match entered {
+        trie::Inserted::Duplicate => Pushed::Refused(16),
+        trie::Inserted::NoRoom => Pushed::Refused(17),
+        trie::Inserted::Made(made) => {
+            if blob.len() < wide(st.used) + bytes.len() {
+                return Pushed::Refused(18);
+            }
+            write(single, offsets, blob, st, id, bytes);
+            Pushed::Taken(counted(st, id, made, bytes.len()))
+        }
+    }
+}
