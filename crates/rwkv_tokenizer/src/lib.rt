@@ -1,4 +1,5 @@
 // The calls that a Rust or C program links. The result is document 01's number of the refusal, 0 if none; a report takes the values that it
 // carries, and 0 for those that it does not.
-mod report;
+mod decode;
 mod encode;
+mod report;

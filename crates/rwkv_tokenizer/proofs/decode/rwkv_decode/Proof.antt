@@ -1,0 +1,32 @@
+use borrow.Author.Needs.{needs}
+use mathlib.Core.Path.{ap, _∙_}
+use Rattle.spec.specs.Answer.{Answer}
+use Rattle.rwkv_tokenizer.specs.Report.{reportOf}
+use Rattle.rwkv_tokenizer.proofs.decode.rwkv_decode.Statement.{statement}
+use Rattle.rwkv_tokenizer.proofs.decode.rwkv_decode.Tie as tie
+use Rattle.rwkv_tokenizer.proofs.decode.rwkv_decode.Reads as reads
+use Rattle.rwkv_tokenizer.proofs.decode.rwkv_decode.Lts as lts
+use Rattle.decoding.proofs.decode_bytes.Reads as decode-bytes-reads
+use Rattle.rwkv_tokenizer.proofs.decode.reported.Reads as reported-reads
+
+-- src/decode.rt:75:9
+decode-bytes-requires : tie.Need-decode-bytes-requires
+decode-bytes-requires c κs = search needs
+
+-- src/decode.rt:76:5
+reported-requires : tie.Need-reported-requires
+reported-requires c κs = search needs
+
+-- src/decode.rt:60:1
+same-length : tie.Need-same-length
+same-length c = search needs
+
+-- src/decode.rt:60:1
+returns : tie.Need-returns
+returns c =
+    let d = c .before .before .before .before .decode-bytes .ensures in
+    let r = c .reported .ensures in
+    record { number = r .0 ∙ ap (λ (a : Answer). a .number) (d .answer); values = r .1 ∙ ap reportOf (d .answer); cells = d .cells }
+
+pub rwkv-decode-spec : {M : Type 1} → statement M
+rwkv-decode-spec = tie.close (tie.spec decode-bytes-requires reported-requires same-length returns)

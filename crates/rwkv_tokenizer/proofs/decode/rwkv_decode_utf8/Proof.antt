@@ -1,0 +1,33 @@
+use borrow.Author.Needs.{needs}
+use mathlib.Core.Path.{ap, _∙_}
+use Rattle.spec.specs.Answer.{Answer}
+use Rattle.rwkv_tokenizer.specs.Report.{reportOf}
+use Rattle.rwkv_tokenizer.proofs.decode.rwkv_decode_utf8.Statement.{statement}
+use Rattle.rwkv_tokenizer.proofs.decode.rwkv_decode_utf8.Tie as tie
+use Rattle.rwkv_tokenizer.proofs.decode.rwkv_decode_utf8.Reads as reads
+use Rattle.rwkv_tokenizer.proofs.decode.rwkv_decode_utf8.Lts as lts
+use Rattle.decoding.proofs.decode_utf8.Reads as decode-utf8-reads
+use Rattle.rwkv_tokenizer.proofs.decode.reported.Reads as reported-reads
+
+-- src/decode.rt:95:9
+decode-utf8-requires : tie.Need-decode-utf8-requires
+decode-utf8-requires c κs = search needs
+
+-- src/decode.rt:96:5
+reported-requires : tie.Need-reported-requires
+reported-requires c κs = search needs
+
+-- src/decode.rt:80:1
+same-length : tie.Need-same-length
+same-length c = search needs
+
+-- src/decode.rt:80:1
+returns : tie.Need-returns
+returns c =
+    let d = c .before .before .before .before .decode-utf8 .ensures in
+    let r = c .reported .ensures in
+    record { number = r .0 ∙ ap (λ (a : Answer). a .number) (d .answer); values = r .1 ∙ ap reportOf (d .answer); cells = d .cells }
+
+pub rwkv-decode-utf8-spec : {M : Type 1} → statement M
+rwkv-decode-utf8-spec =
+    tie.close (tie.spec decode-utf8-requires reported-requires same-length returns)
