@@ -389,6 +389,14 @@ module _ (s : List ℕ) (h : 0 < length s) where
   unfolding firstBadFrom
   first-bad-other i t e f = ap (λ ps. firstOf (badFrom i ps)) (parts-step s t h e) ∙ rw f
 
+  pub well-formed-char : (n : ℕ) → stepOf s ≡ char n → wellFormed s ≡ wellFormed (drop n s)
+  unfolding wellFormed
+  well-formed-char n e = ap (all isWhole) (parts-step s (char n) h e)
+
+  pub well-formed-other : (t : Step) → stepOf s ≡ t → isChar t ≡ false → wellFormed s ≡ false
+  unfolding wellFormed
+  well-formed-other t e f = ap (all isWhole) (parts-step s t h e) ∙ rw f
+
   pub lossy-char : (n : ℕ) → stepOf s ≡ char n → lossy s ≡ take n s ++ lossy (drop n s)
   unfolding lossy
   lossy-char n e = ap (each shown) (parts-step s (char n) h e)

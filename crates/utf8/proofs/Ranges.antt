@@ -1,12 +1,13 @@
 -- A number against a list of ranges: the tests of a `match`, as inequalities, decide what the definitions of `spec` compute.
 -- Assumes nothing.
-use mathlib.Core.Path.{_≡_, refl, ap, _∙_, sym}
+use mathlib.Core.Path.{_≡_, refl, ap, _∙_, sym, subst}
 use mathlib.Core.Logic.{inl, inr, ⊎-elim}
 use mathlib.Core.Bool.{Bool, true, false, _&&_, _||_, cond}
 use mathlib.Core.Option.{Option, none, some}
 use mathlib.Core.List.{List, [], _∷_}
 use Prim.Native.Nat.{ℕ, zero, suc, _≤_, _<_}
 use native.Mathlib.Omega.{arith}
+use lib.ListN.{length}
 use types.Run.{OneOf}
 use Rattle.spec.specs.Lists.{any, all}
 use Rattle.spec.specs.Utf8.{Range, Rule, _to_, _then_, within, grammar, In, Out, inside, outside, ruleFor, after, whiteRanges, whiteSpace}
@@ -79,6 +80,30 @@ no-rule (r ∷ rs) n h = rw (outside (r .first) n (h .0)) (no-rule rs n (h .1))
 pub after-none : (n : ℕ) → unfold grammar in NoRule grammar n → after n ≡ none
 unfolding after
 after-none n h = no-rule grammar n h
+
+-- only the first rule ends a character with its first byte
+abbrev Longer : List Rule → Type 0
+Longer [] = Unit {0}
+Longer (r ∷ rs) = (0 < length (r .others)) × Longer rs
+
+abbrev more : List Rule → List Rule
+more [] = []
+more (r ∷ rs) = rs
+
+longer-rule : (rs : List Rule) → Longer rs → (n : ℕ) (os : List Range) → ruleFor rs n ≡ some os → 0 < length os
+unfolding ruleFor
+longer-rule [] l n os e = let z : _≡_ {A = ℕ} 0 1 = cc in absurd (omega arith)
+longer-rule (r ∷ rs) l n os e = go (within (r .first) n) e (longer-rule rs (l .1) n os)
+  where
+    go : (c : Bool) → cond c (some (r .others)) (ruleFor rs n) ≡ some os → (ruleFor rs n ≡ some os → 0 < length os) → 0 < length os
+    go true e k = let z : r .others ≡ os = cc in subst (λ (l : List Range). 0 < length l) z (l .0)
+    go false e k = k e
+
+pub after-longer : (n : ℕ) (os : List Range) → 0x80 ≤ n → some os ≡ after n → 0 < length os
+unfolding after
+after-longer n os h e =
+    let o : Out (0x00 to 0x7F) n = omega arith in
+    longer-rule (more grammar) (omega arith) n os (sym (e ∙ rw (outside (0x00 to 0x7F) n o)))
 
 and-left : (a b : Bool) → a && b ≡ true → a ≡ true
 and-left true b e = refl

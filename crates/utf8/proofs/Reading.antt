@@ -8,9 +8,14 @@ use native.Mathlib.Nat.{sub-zero, zero-sub, suc-sub-suc}
 use native.Mathlib.Omega.{arith}
 use lib.ListN.{length, take, drop, replicate, length-take}
 use lib.Seq.{take-nil, drop-nil}
-use Rattle.spec.specs.Utf8.{Range, _to_, within, tail, after, replacement}
+use Rattle.spec.specs.Utf8.{Range, _to_, within, tail, grammar, after, replacement}
 use Rattle.utf8.specs.Reader.{start, broken, taken, pushed, wants, wants-two, pushOf, finishOf}
-use Rattle.utf8.specs.Means.{ranges}
+use denote.Enum.Declared.{tagOf, declared}
+use Rattle.utf8.specs.declared.Lead.{Lead}
+use Rattle.utf8.specs.declared.Lead.the-variants.{Nothing, Follow}
+use Rattle.utf8.proofs.Lead.{enum}
+use Rattle.utf8.specs.Means.{ranges, leadMeans}
+use Rattle.utf8.proofs.Ranges.{after-at, after-longer}
 
 module _ (b : ℕ) where
   pub start-none : none ≡ after b → record { out = replacement; held = [] } ≡ start b
@@ -21,10 +26,23 @@ module _ (b : ℕ) where
   unfolding start
   start-whole n low high e z = rw (← e, z)
 
+  pub start-plain : b < 0x80 → record { out = b ∷ []; held = [] } ≡ start b
+  unfolding grammar
+  start-plain h = start-whole 0 0 0 (sym (after-at 0 b (omega arith))) refl
+
   pub start-more : (n low high : ℕ) → some (ranges n low high) ≡ after b → (n ≡ 0 → ⊥) → record { out = []; held = b ∷ [] } ≡ start b
   unfolding start
   start-more zero low high e z = absurd (z refl)
   start-more (suc n) low high e z = rw (← e)
+
+no-ranges : (n low high : ℕ) → n ≡ 0 → length (ranges n low high) ≡ 0
+no-ranges n low high z = rw z
+
+pub start-long : (r : Lead) (b : ℕ) → tagOf (declared enum) r ≡ 1 → 0x80 ≤ b → leadMeans r ≡ after b →
+    record { out = []; held = b ∷ [] } ≡ start b
+start-long Nothing b t h e = absurd (omega arith)
+start-long (Follow n low high) b t h e = start-more b n low high e (λ z.
+    omega (arith, after-longer b (ranges n low high) h e, no-ranges n low high z))
 
 -- ── The held bytes, by their number ──────────────────────────────────
 

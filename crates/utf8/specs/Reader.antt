@@ -9,7 +9,7 @@ use native.Mathlib.Omega.{arith}
 use lib.ListN.{length, take, drop, length-drop}
 use lib.Seq.{drop-append-seam, drop-length, append-snoc}
 use Rattle.spec.specs.Utf8.{Range, Rule, grammar, ruleFor, within, after, Step, char, bad, cut, follow, stepOf, step-cons}
-use Rattle.spec.specs.Utf8.{replacement, lossy, lossy-nil, lossy-char, lossy-other}
+use Rattle.spec.specs.Utf8.{wellFormed, well-formed-char, well-formed-other, replacement, lossy, lossy-nil, lossy-char, lossy-other}
 
 -- ── One byte ─────────────────────────────────────────────────────────
 
@@ -80,18 +80,32 @@ pub data Begun : List ℕ → Type 0 where
   begins : (a : ℕ) (h : List ℕ) (r : Range) (rs : List Range) → drop (length h) (followers (after a)) ≡ r ∷ rs →
       ((s : List ℕ) → stepOf (a ∷ h ++ s) ≡ follow (suc (length h)) (r ∷ rs) s) → Begun (a ∷ h)
 
--- A byte is right if what it brings and the rest make the lossy text.
+-- A byte is right if what it brings and the rest make the lossy text, and if it keeps every byte of UTF-8.
 abbrev Right : List ℕ → ℕ → Turn → Type 0
-Right h b t = Begun (t .held) × ((s : List ℕ) → lossy (h ++ b ∷ s) ≡ t .out ++ lossy (t .held ++ s))
+Right h b t =
+    Begun (t .held) ×
+    ((s : List ℕ) → lossy (h ++ b ∷ s) ≡ t .out ++ lossy (t .held ++ s)) ×
+    ((s : List ℕ) → wellFormed (h ++ b ∷ s) ≡ true → (t .out ++ t .held ≡ h ++ b ∷ []) × (wellFormed (t .held ++ s) ≡ true))
+
+clash : {c : Bool} → c ≡ true → c ≡ false → ⊥
+clash p q = let z : _≡_ {A = ℕ} 0 1 = cc in omega arith
 
 start-right : (b : ℕ) → Right [] b (start b)
 unfolding start follow
 start-right b = go (after b) refl
   where
     go : (o : Option (List Range)) → after b ≡ o → Right [] b (begun o b)
-    go none e = (nothing, λ s. lossy-other (b ∷ s) (omega arith) (bad 1) (rw (step-cons b s, e)) refl)
-    go (some []) e = (nothing, λ s. lossy-char (b ∷ s) (omega arith) 1 (rw (step-cons b s, e)))
-    go (some (r ∷ rs)) e = (begins b [] r rs (rw e) (λ s. rw (step-cons b s, e)), λ s. refl)
+    go none e = (
+      nothing,
+      λ s. lossy-other (b ∷ s) (omega arith) (bad 1) (rw (step-cons b s, e)) refl,
+      λ s w. absurd (clash w (well-formed-other (b ∷ s) (omega arith) (bad 1) (rw (step-cons b s, e)) refl)),
+    )
+    go (some []) e = (
+      nothing,
+      λ s. lossy-char (b ∷ s) (omega arith) 1 (rw (step-cons b s, e)),
+      λ s w. (refl, sym (well-formed-char (b ∷ s) (omega arith) 1 (rw (step-cons b s, e))) ∙ w),
+    )
+    go (some (r ∷ rs)) e = (begins b [] r rs (rw e) (λ s. rw (step-cons b s, e)), λ s. refl, λ s w. (refl, w))
 
 module _ {A : Type 0} where
   snoc-length : (h : List A) (b : A) → length (h ++ b ∷ []) ≡ suc (length h)
@@ -125,18 +139,26 @@ push-right b (begins a h r rs w f) = rw w (go (within r b) refl rs w f)
       λ s.
           lossy-other (a ∷ h ++ b ∷ s) (omega arith) (bad (suc (length h))) (f (b ∷ s) ∙ rw e) refl ∙
           rw (drop-append-seam h (b ∷ s), start-right b .1 s),
+      λ s v. absurd (clash v
+          (well-formed-other (a ∷ h ++ b ∷ s) (omega arith) (bad (suc (length h))) (f (b ∷ s) ∙ rw e) refl)),
     )
     go true e [] w f = (
       nothing,
       λ s.
           lossy-char (a ∷ h ++ b ∷ s) (omega arith) (suc (suc (length h))) (f (b ∷ s) ∙ rw e) ∙
           rw (take-snoc h b s, drop-snoc h b s),
+      λ s v. (
+        append-nil (a ∷ h ++ b ∷ []),
+        rw (drop-snoc h b s) at
+            (sym (well-formed-char (a ∷ h ++ b ∷ s) (omega arith) (suc (suc (length h))) (f (b ∷ s) ∙ rw e)) ∙ v),
+      ),
     )
     go true e (q ∷ qs) w f = (
       begins a (h ++ b ∷ []) q qs
           (rw (snoc-length h b) (drop-next (length h) (followers (after a)) r (q ∷ qs) w))
           (λ s. rw (snoc-length h b, append-snoc h b s) (f (b ∷ s) ∙ rw e)),
       λ s. rw (append-snoc h b s),
+      λ s v. (refl, rw (append-snoc h b s) v),
     )
 
 end-right : {h : List ℕ} → Begun h → lossy h ≡ finishOf h .out
@@ -153,6 +175,26 @@ run-right {h} (b ∷ s) k = push-right b k .1 s ∙ rw (append-assoc, run-right 
 -- Lossy text: what the bytes bring, one after another from nothing held, and then the end.
 pub lossy-run : (s : List ℕ) → lossy s ≡ run [] s .out ++ finishOf (run [] s .held) .out
 lossy-run s = run-right s nothing
+
+end-well : {h : List ℕ} → Begun h → wellFormed h ≡ true → h ≡ []
+unfolding follow
+end-well nothing v = refl
+end-well (begins a h r rs w f) v = absurd (clash v
+    (well-formed-other (a ∷ h) (omega arith) (cut (suc (length h))) (rw append-nil at (f [])) refl))
+
+run-well : {h : List ℕ} (s : List ℕ) → Begun h → wellFormed (h ++ s) ≡ true → run h s ≡ record { out = h ++ s; held = [] }
+unfolding run
+run-well {h} [] k v = rw (end-well k (rw append-nil at v))
+run-well {h} (b ∷ s) k v =
+    let t : Turn = pushOf h b in
+    let q = push-right b k .2 s v in
+    let e : t .out ++ (t .held ++ s) ≡ h ++ b ∷ s =
+    sym (append-assoc (t .out) (t .held) s) ∙ ap (λ l. l ++ s) (q .0) ∙ append-snoc h b s in
+    ap (joined t) (run-well s (push-right b k .0) (q .1)) ∙ ap (λ l. record { out = l; held = [] }) e
+
+-- UTF-8 goes through as it is, and nothing of it is held in the end.
+pub well-formed-run : (s : List ℕ) → wellFormed s ≡ true → run [] s ≡ record { out = s; held = [] }
+well-formed-run s v = run-well s nothing v
 
 -- ── Laws for a caller's loop ─────────────────────────────────────────
 

@@ -316,18 +316,17 @@ fn replaced(held: Held) -> Pushed
 fn alone(b: u8) -> Pushed
     ensures { λ r. ⌜ r ≡ pushedAs (start b) ⌝ }
 {
-    let Lead::Follow(more, _, _) = lead_of(b) else {
-        return replaced(fresh());
-    };
-    if more == 0 {
-        Pushed {
+    if b < 0x80 {
+        return Pushed {
             bytes: [b, 0, 0, 0, 0, 0],
             len: 1,
             held: fresh(),
-        }
-    } else {
-        quiet(begun(b))
+        };
     }
+    let Lead::Follow(_, _, _) = lead_of(b) else {
+        return replaced(fresh());
+    };
+    quiet(begun(b))
 }
 
 // `b` after held bytes that it breaks off.
