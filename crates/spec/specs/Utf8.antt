@@ -464,3 +464,32 @@ example-above = refl
 example-broken-off : lossy (0xF0 ∷ 0x90 ∷ 0x80 ∷ 0x41 ∷ []) ≡ 0xEF ∷ 0xBF ∷ 0xBD ∷ 0x41 ∷ []
 unfolding lossy
 example-broken-off = refl
+
+example-cut-off : lossy (0x41 ∷ 0xE2 ∷ 0x82 ∷ []) ≡ 0x41 ∷ 0xEF ∷ 0xBF ∷ 0xBD ∷ []
+unfolding lossy
+example-cut-off = refl
+
+example-first-bad : firstBad (0x41 ∷ 0xC3 ∷ 0xA9 ∷ 0xFF ∷ 0x41 ∷ 0x80 ∷ []) ≡ some 3
+unfolding firstBad
+example-first-bad = refl
+
+example-ill-formed : illFormedAt (0x41 ∷ 0xC3 ∷ 0xA9 ∷ 0xFF ∷ 0x41 ∷ 0x80 ∷ []) 5 ≡ true
+unfolding illFormedAt
+example-ill-formed = refl
+
+example-euro : utf8Of 0x20AC ≡ 0xE2 ∷ 0x82 ∷ 0xAC ∷ []
+unfolding utf8Of
+example-euro = refl
+
+example-no-surrogate : utf8Of 0xD800 ≡ []
+unfolding utf8Of
+example-no-surrogate = refl
+
+-- U+3000 and a space; U+200B is no White_Space
+example-blank : blank (0xE3 ∷ 0x80 ∷ 0x80 ∷ 0x20 ∷ []) ≡ true
+unfolding blank
+example-blank = refl
+
+example-not-blank : blank (0x20 ∷ 0xE2 ∷ 0x80 ∷ 0x8B ∷ []) ≡ false
+unfolding blank
+example-not-blank = refl

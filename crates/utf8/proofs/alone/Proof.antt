@@ -30,8 +30,10 @@ replaced-requires c κs = search needs
 
 returns-2 : tie.Need-returns-2
 returns-2 c =
-    let e = ap leadMeans (sym (c .before .before .enum-told2 .given .1)) ∙ c .before .before .before .before .lead-of .ensures in
-    c .replaced .ensures ∙ rw (c .before .fresh2 .ensures) (ap pushedAs (start-none (c .before .before .before .before .before .before .args .b) e))
+    let d = c .before .before .before .before in
+    let e = ap leadMeans (sym (c .before .before .enum-told2 .given .1)) ∙ d .lead-of .ensures in
+    let t = start-none (d .before .before .args .b) e in
+    c .replaced .ensures ∙ rw (c .before .fresh2 .ensures) (ap pushedAs t)
 
 begun-requires : tie.Need-begun-requires
 begun-requires c κs = search needs
@@ -42,7 +44,9 @@ quiet-requires c κs = search needs
 returns-3 : tie.Need-returns-3
 returns-3 c =
     let d = c .before .before .before .before in
-    let t = start-long (d .lead-of .result) (d .before .before .args .b) (c .before .before .before .match .keys1) (d .before .if1 .left) (d .lead-of .ensures) in
+    let l = d .lead-of in
+    let b = d .before .before .args .b in
+    let t = start-long (l .result) b (c .before .before .before .match .keys1) (d .before .if1 .left) (l .ensures) in
     c .quiet .ensures ∙ rw (c .before .begun .ensures) (ap pushedAs t)
 
 pub alone-spec : {M : Type 1} → statement M
