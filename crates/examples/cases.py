@@ -1,0 +1,139 @@
+#!/usr/bin/env python3
+"""Writes `stdin`, the cases, and `stdout`, the answers that document 01 asks for.
+
+Nothing here is taken from the code. What a literal stands for is what Python's own reader makes of it, where document 01 takes
+the literal at all; which ones it takes is one pattern. `\\0` is the one place where both take a literal and differ: it is given to
+Python as `\\x00`. Lines, fields and numbers are split and read by Python's means.
+"""
+import ast
+import os
+import re
+
+WHITE = "\u0009-\u000d\u0020\u0085\u00a0\u1680\u2000-\u200a\u2028\u2029\u202f\u205f\u3000"
+
+
+def literal(text):
+    """The bytes of a literal, or None."""
+    prefix, quoted = (b"b", text[1:]) if text[:1] == b"b" else (b"", text)
+    if len(quoted) < 2 or quoted[:1] not in (b"'", b'"') or quoted[:1] != quoted[-1:]:
+        return None
+    quote, inner = quoted[:1], quoted[1:-1]
+    plain = rb"[^\\" + quote + (rb"\x80-\xff]" if prefix else rb"]")
+    point = rb"" if prefix else rb"|u(?![dD][89a-fA-F])[0-9a-fA-F]{4}"
+    if not re.fullmatch(rb"(?s:" + plain + rb"|\\(?:[ntr\\'\"0]|x[0-9a-fA-F]{2}" + point + rb"))*", inner):
+        return None
+    # raw CR, LF and NUL stand for themselves here, which Python's reader takes only escaped
+    for raw, escape in ((b"\r", rb"\r"), (b"\n", rb"\n"), (b"\0", rb"\x00")):
+        inner = inner.replace(raw, escape)
+    inner = re.sub(rb"(?s)\\(.)", lambda m: rb"\x00" if m[1] == b"0" else m[0], inner)
+    value = ast.literal_eval((prefix + quote + inner + quote).decode("utf-8"))
+    return value if prefix else value.encode("utf-8")
+
+
+def lines(text):
+    ended = text.split(b"\n")
+    last = ended.pop()
+    found = [re.sub(rb"\r{1,2}\Z", b"", line) for line in ended]
+    return found + ([re.sub(rb"\r\Z", b"", last)] if last else [])
+
+
+def fields(line):
+    """Three parts, or the refusal's number."""
+    try:
+        if re.fullmatch("[%s]*" % WHITE, line.decode("utf-8")):
+            return 3
+    except UnicodeDecodeError:
+        pass
+    if b" " not in line:
+        return 4
+    first, last = line.index(b" "), line.rindex(b" ")
+    if first == 0 or last <= first + 1 or last == len(line) - 1:
+        return 5
+    return [line[:first], line[first + 1:last], line[last + 1:]]
+
+
+def number(text, limit):
+    if not re.fullmatch(rb"[0-9]+", text) or int(text) > limit:
+        return None
+    return int(text)
+
+
+def shown(parts):
+    return "".join("[%s]" % part.hex() for part in parts)
+
+
+def answer(kind, case):
+    if kind == "L":
+        value = literal(case)
+        return "refused 12" if value is None else shown([value])
+    if kind == "F":
+        value = fields(case)
+        return "refused %d" % value if isinstance(value, int) else shown(value)
+    if kind == "T":
+        return shown(lines(case))
+    value = number(case, 2**32 - 1 if kind == "I" else 2**64 - 1)
+    return "refused %d" % (6 if kind == "I" else 11) if value is None else str(value)
+
+
+def cases():
+    # document 01's examples
+    for text in (rb"'\x80'", rb"b'\x80'", rb"'\01'", rb"'\ud800'", rb"b'\u0041'", b"'a\\'"):
+        yield "L", text
+    for text in (b"1 ' ' 1", b"1 'a'  1", b"1 'a'", b"+1 'a' 1", b"1 'a' 1"):
+        yield "F", text
+    for text in (b"'a' ", b"' '", b"'a'"):
+        yield "L", text
+    for text in (b"+1", b"65535", b"65536", b"4294967295", b"4294967296"):
+        yield "I", text
+    # every byte after a backslash, in both kinds of literal, with digits behind it and with nothing
+    for prefix in (b"", b"b"):
+        for byte in range(128):
+            yield "L", prefix + b"'\\" + bytes([byte]) + b"e9A0'"
+            yield "L", prefix + b'"\\' + bytes([byte]) + b'"'
+    for byte in range(128, 256):
+        yield "L", b"b'\\" + bytes([byte]) + b"'"
+    # quotes
+    for text in (b"", b"'", b'"', b"b", b"b'", b"''", b'""', b"b''", b"'a\"", b"\"a'", b"'''", b"'a'b'", b"'a\"b'", b"bb'a'", b"B'a'", b"u'a'",
+                 b" 'a'", b"'a' ", b"'\\'", b"'\\\\'", b"'\\''", b"'\r'", b"'\0'", b"'\n'", b"'\x7f'", b"b'\x7f'", b"b'\x80'"):
+        yield "L", text
+    # the edges of the code points
+    for digits in ("0000", "007f", "0080", "07ff", "0800", "d7ff", "d800", "DBFF", "dC00", "dfff", "e000", "ffff", "00g0", "fff"):
+        yield "L", ("'\\u%s'" % digits).encode()
+    for digits in ("00", "7f", "80", "ff", "FF", "fF", "g0", "0g", "f", ""):
+        yield "L", ("'\\x%s'" % digits).encode()
+        yield "L", ("b'\\x%s'" % digits).encode()
+    for text in ("é", "€", "𝄞", "é\\n€"):
+        yield "L", ("'%s'" % text).encode()
+    # none, one, two, three CR, with and without LF
+    for end in (b"", b"\n"):
+        for crs in range(4):
+            for line in (b"", b"a"):
+                yield "T", line + b"\r" * crs + end
+                yield "T", line + b"\r" * crs + end + b"b"
+    for text in (b"\n\n", b"a\n\nb\n", b"\r\n\r\r\n\r\r\r\n", b"a\rb\n", b"\ra"):
+        yield "T", text
+    # the places of the spaces, and blank lines with each end of the White_Space ranges and its neighbours
+    for text in (b"1", b" 1 2", b"1 2", b"1  2", b"1 x 2", b"1 x 2 ", b"1 x y 2", b"1\tx\t2", b" ", b"  "):
+        yield "F", text
+    for low, high in ((0x9, 0xd), (0x20, 0x20), (0x85, 0x85), (0xa0, 0xa0), (0x1680, 0x1680), (0x2000, 0x200a), (0x2028, 0x2029),
+                      (0x202f, 0x202f), (0x205f, 0x205f), (0x3000, 0x3000)):
+        for point in (low - 1, low, high, high + 1):
+            yield "F", chr(point).encode()
+            yield "F", (chr(point) * 2).encode()
+    yield "F", b"\xc2"
+    # numbers
+    for text in (b"", b"0", b"00", b"007", b"-1", b"1 ", b" 1", b"1_0", b"0x1", b"/", b":", b"\xd9\xa1", b"0" * 30 + b"9", b"9" * 30,
+                 b"4294967294", b"18446744073709551614", b"18446744073709551615", b"18446744073709551616", b"99999999999999999999"):
+        yield "I", text
+        yield "N", text
+
+
+def main():
+    here = os.path.dirname(os.path.abspath(__file__))
+    with open(os.path.join(here, "stdin"), "w") as given, open(os.path.join(here, "stdout"), "w") as wanted:
+        for kind, case in cases():
+            given.write("%s %s\n" % (kind, case.hex()))
+            wanted.write("%s %s: %s\n" % (kind, case.hex(), answer(kind, case)))
+
+
+main()
