@@ -3,3 +3,4 @@ mod Ranges
 mod Steps
 mod Cells
 mod Reading
+pub mod Points
