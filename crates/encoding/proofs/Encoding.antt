@@ -11,11 +11,13 @@ use lib.ListN.{length, take, drop, set, getD, length-drop, length-set, drop-of-l
 use lib.Seq.{drop-cons, drop-nil, drop-drop, drop-set-lt, take-suc-set, length-take-le}
 use borrow.Author.Tests.{ltb-false}
 use Rattle.spec.specs.Lists.{over}
-use Rattle.spec.specs.Answer.{Answer, bare}
 use Rattle.spec.specs.Memory.{Memory, tooShort}
 use Rattle.spec.specs.Match.{Match, nothing, found, matchOn}
 use Rattle.spec.specs.Encode.{EncodeEnd, complete, unmatched, full, Encoding, encoded, encodeAt, encoding, encodeAnswer, encodeOn}
-use Rattle.encoding.proofs.Walking.{match-within}
+use Rattle.encoding.specs.declared.Encoded.{Encoded}
+use Rattle.encoding.specs.declared.Encoded.the-variants.{ShortMemory}
+use Rattle.encoding.specs.Answers.{answerOf, Answered}
+use Rattle.encoding.proofs.Bounds.{match-within}
 
 -- an end with no further id
 abbrev pub endedWith : EncodeEnd → Encoding
@@ -70,9 +72,9 @@ module _ (m : Memory) (src : List ℕ) (i : ℕ) where
           ap (encodeAt m (suc n) i 0) cons
           ∙ rw (ap (matchOn m) (sym cons) ∙ e, encodeAt)
           (ap (encoded id)
-            (skip m n (suc i) (pred len) (drop (suc i) src)
-              ∙ ap (encodeAt m n (suc i + pred len) 0) (drop-drop (pred len) (suc i) src)
-              ∙ ap (λ (p : ℕ). encodeAt m n p 0 (drop p src)) step))
+          (skip m n (suc i) (pred len) (drop (suc i) src)
+          ∙ ap (encodeAt m n (suc i + pred len) 0) (drop-drop (pred len) (suc i) src)
+          ∙ ap (λ (p : ℕ). encodeAt m n p 0 (drop p src)) step))
 
 -- ---- what stands
 
@@ -93,7 +95,8 @@ stands-first m src lent =
       count = omega arith;
       long = refl;
       others = refl;
-      ids = ap (λ (n : ℕ). encodeAt m n 0 0 src) all }
+      ids = ap (λ (n : ℕ). encodeAt m n 0 0 src) all;
+    }
 
 module _ (m : Memory) (src lent out : List ℕ) (i n : ℕ) (st : Stands m src lent out i n) where
   -- a token's id is written, and the position moves past it
@@ -106,22 +109,28 @@ module _ (m : Memory) (src lent out : List ℕ) (i n : ℕ) (st : Stands m src l
         count = omega arith;
         long = length-set out n id ∙ st .long;
         others =
-          drop-set-lt (n + 1) out n id (omega arith)
-          ∙ sym (drop-drop 1 n out)
-          ∙ ap (drop 1) (st .others)
-          ∙ drop-drop 1 n lent;
-        ids = st .ids ∙ ap (after (take n out)) (room-for ∙ hands-out m src i here id len e left) ∙ moved }
+            drop-set-lt (n + 1) out n id (omega arith)
+            ∙ sym (drop-drop 1 n out)
+            ∙ ap (drop 1) (st .others)
+            ∙ drop-drop 1 n lent;
+        ids = st .ids ∙ ap (after (take n out)) (room-for ∙ hands-out m src i here id len e left) ∙ moved;
+      }
     where
       left : ℕ
       left = length lent - (n + 1)
+
       more : Encoding
       more = encodeAt m left (i + len) 0 (drop (i + len) src)
+
       one-less : length lent - n ≡ suc left
       one-less = omega (arith, st .long)
+
       room-for : encodeAt m (length lent - n) i 0 (drop i src) ≡ encodeAt m (suc left) i 0 (drop i src)
       room-for = ap (λ (k : ℕ). encodeAt m k i 0 (drop i src)) one-less
+
       written : take (n + 1) (set out n id) ≡ take n out ++ (id ∷ [])
       written = ap (λ (k : ℕ). take k (set out n id)) (add-one n) ∙ take-suc-set out n id room
+
       moved : after (take n out) (encoded id more) ≡ after (take (n + 1) (set out n id)) more
       moved =
           ap (λ (l : List ℕ). record { ids = l; end = more .end })
@@ -143,36 +152,40 @@ module _ (m : Memory) (src lent out : List ℕ) (i n : ℕ) (st : Stands m src l
 
   -- the answer and the cells of an encoding that ends here
   pub answers : tooShort m ≡ false → (e : EncodeEnd) → encodeAt m (length lent - n) i 0 (drop i src) ≡ endedWith e
-      → (encodeAnswer n e ≡ encodeOn m (length lent) src .answer) × (out ≡ over (encodeOn m (length lent) src .cells) lent)
+      → (r : Encoded) → answerOf r ≡ encodeAnswer n e → Answered (encodeOn m (length lent) src) r lent out
   unfolding encodeOn
-  answers t e h =
+  answers t e h r a =
       rw (t, encodeOn, ends-here e h)
-      (ap (λ (k : ℕ). encodeAnswer k e) (sym counted), cells)
+      (record { answer = a ∙ ap (λ (k : ℕ). encodeAnswer k e) (sym counted); cells = cells })
 
 -- ---- number 1
 
 -- memory that is not too short
 pub long-enough : (m : Memory) → tooShort m ≡ false → (256 ≤ length (m .single)) × (65536 ≤ length (m .roots))
 unfolding tooShort
-long-enough m t =
-    ( ltb-false (length (m .single)) 256 (or-false-l a (b || d) t)
-    , ltb-false (length (m .roots)) 65536 (or-false-r b d (or-false-r a (b || d) t)) )
+long-enough m t = (
+  ltb-false (length (m .single)) 256 (or-false-l a (b || d) t),
+  ltb-false (length (m .roots)) 65536 (or-false-r b d (or-false-r a (b || d) t)),
+)
   where
     a : Bool
     a = ltb (length (m .single)) 256
+
     b : Bool
     b = ltb (length (m .offsets)) 65537
+
     d : Bool
     d = ltb (length (m .roots)) 65536
+
     or-false-l : (x y : Bool) → (x || y) ≡ false → x ≡ false
     or-false-l true y e = e
     or-false-l false y e = refl
+
     or-false-r : (x y : Bool) → (x || y) ≡ false → y ≡ false
     or-false-r true y e = absurd (true≢false e)
     or-false-r false y e = e
 
 -- number 1 leaves everything as it was
-pub refuses : (m : Memory) (src lent : List ℕ) → tooShort m ≡ true
-    → (bare 1 ≡ encodeOn m (length lent) src .answer) × (lent ≡ over (encodeOn m (length lent) src .cells) lent)
+pub refuses : (m : Memory) (src lent : List ℕ) → tooShort m ≡ true → Answered (encodeOn m (length lent) src) ShortMemory lent lent
 unfolding encodeOn
-refuses m src lent t = rw (t, encodeOn) (refl, refl)
+refuses m src lent t = rw (t, encodeOn) (record { answer = refl; cells = refl })

@@ -1,3 +1,5 @@
--- What the proofs of several functions use: one turn of a walk and of an encoding, on lists.
+-- What the proofs of several functions use, on lists.
 pub mod Walking
+pub mod Bounds
+pub mod Row
 pub mod Encoding

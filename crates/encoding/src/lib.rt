@@ -1,15 +1,15 @@
-// Matching and whole encoding. Each contract is an equation with a definition of `spec`, whatever the memory holds.
+// Matching and whole encoding, on any vocabulary memory. Each contract is an equation with a definition of `spec`; where a function is not
+// given a part of the memory, the equation holds whatever that part is.
 ghost use mathlib.Core.Path.{_≡_};
 ghost use mathlib.Core.List.{List, [], _∷_};
 ghost use Prim.Native.Nat.{ℕ, _+_, _*_, _≤_, _<_, min};
 ghost use lib.IntN.{ℤ, pos};
 ghost use lib.ListN.{length, drop, getD};
 ghost use lib.Seq.{slice};
-ghost use Rattle.spec.specs.Lists.{over};
 ghost use Rattle.spec.specs.Memory.{memory, tooShort};
-ghost use Rattle.spec.specs.Match.{idIn, onto, enter, walkOn, one, matchOn, undecidedOn};
+ghost use Rattle.spec.specs.Match.{idIn, baseIn, noWalk, onto, enter, walkOn, one, matchOn, undecidedOn};
 ghost use Rattle.spec.specs.Encode.{encodeOn};
-ghost use Rattle.encoding.specs.Answers.{walkOf, matchOf, answerOf, child};
+ghost use Rattle.encoding.specs.Answers.{walkOf, trailOf, matchOf, child, Answered};
 
 // What a walk from a place of the input found: the last token passed (length 0: none), the bytes it used and the base it ended with.
 pub struct Walk {
@@ -17,6 +17,14 @@ pub struct Walk {
     pub len: usize,
     pub used: usize,
     pub base: u64,
+}
+
+// The same walk while it goes, by its words: the last one with an id, and the last. Its length counts only where there is an id.
+struct Trail {
+    best: u64,
+    len: usize,
+    used: usize,
+    word: u64,
 }
 
 // A token's id and length, or none.
@@ -56,12 +64,12 @@ fn id_in(word: u64) -> u32
     ((word >> 8) % 65536) as u32
 }
 
-// The word that the byte leads to from a base, or 0.
-fn child_of(table: &[u64], base: u64, byte: u8) -> u64
-    ensures { λ r. ⌜ r ≡ child (now (table .entry)) base byte ⌝ }
+// The word that the byte leads to from a word, or 0. Bits 32 to 63 are the base.
+fn child_of(table: &[u64], word: u64, byte: u8) -> u64
+    ensures { λ r. ⌜ r ≡ child (now (table .entry)) (baseIn word) byte ⌝ }
 {
     let label = byte as u64;
-    let at = (base ^ label) as usize;
+    let at = ((word >> 32) ^ label) as usize;
     if at >= table.len() {
         return 0;
     }
@@ -75,25 +83,35 @@ fn child_of(table: &[u64], base: u64, byte: u8) -> u64
     next
 }
 
-// The walk after a word, with its bytes used: every later terminal is a longer match.
-fn advance(walk: Walk, word: u64, used: usize) -> Walk
-    ensures { λ r. ⌜ walkOf r ≡ onto (walkOf walk) word used ⌝ }
+// Nothing found, nothing used.
+fn no_trail() -> Trail
+    ensures { λ r. ⌜ trailOf r ≡ noWalk ⌝ }
 {
-    let id = id_in(word);
-    let base = word >> 32;
-    if id == 0 {
-        return Walk {
-            id: walk.id,
-            len: walk.len,
+    Trail {
+        best: 0,
+        len: 0,
+        used: 0,
+        word: 0,
+    }
+}
+
+// The walk after a word and its bytes used: every later terminal is a longer match.
+fn advance(trail: Trail, word: u64, used: usize) -> Trail
+    ensures { λ r. ⌜ trailOf r ≡ onto (trailOf trail) word used ⌝ }
+{
+    if id_in(word) == 0 {
+        return Trail {
+            best: trail.best,
+            len: trail.len,
             used,
-            base,
+            word,
         };
     }
-    Walk {
-        id,
+    Trail {
+        best: word,
         len: used,
         used,
-        base,
+        word,
     }
 }
 
@@ -106,56 +124,75 @@ fn limit(len: usize, i: usize) -> usize
 }
 
 // The walk from a root word over the bytes after the first two, up to the end.
-fn enter_at(table: &[u64], root: u64, src: &[u8], i: usize, end: usize) -> Walk
+fn enter_at(table: &[u64], root: u64, src: &[u8], i: usize, end: usize) -> Trail
     requires { ⌜ (i + 2 ≤ end) × (end ≤ length (now src)) ⌝ }
-    ensures { λ r. ⌜ walkOf r ≡ enter (now (table .entry)) root (slice (i + 2) end (now (src .entry))) ⌝ }
+    ensures { λ r. ⌜ trailOf r ≡ enter (now (table .entry)) root (slice (i + 2) end (now (src .entry))) ⌝ }
 {
-    let none = Walk {
-        id: 0,
-        len: 0,
-        used: 0,
-        base: 0,
-    };
     if root == 0 {
-        return none;
+        return no_trail();
     }
-    let mut walk = advance(none, root, 2);
-    if walk.id != 0 {
-        if walk.base == 0 {
-            return walk;
+    let mut trail = Trail {
+        best: root,
+        len: 2,
+        used: 2,
+        word: root,
+    };
+    if id_in(root) != 0 {
+        if root >> 32 == 0 {
+            return trail;
         }
     }
     let mut j = i + 2;
     while j < end {
-        let word = child_of(table, walk.base, src[j]);
+        let word = child_of(table, trail.word, src[j]);
         if word == 0 {
-            return walk;
+            return trail;
         }
         j += 1;
-        walk = advance(walk, word, j - i);
-        if walk.base == 0 {
-            return walk;
+        trail = advance(trail, word, j - i);
+        if word >> 32 == 0 {
+            return trail;
         }
     }
-    walk
+    trail
 }
 
 // The walk from the place i of the input, over at most 255 bytes.
+fn trail_at(roots: &[u64], table: &[u64], src: &[u8], i: usize) -> Trail
+    requires { ⌜ (i < length (now src)) × (65536 ≤ length (now roots)) ⌝ }
+    ensures { λ r. ⌜ ((single : List ℤ) (offsets blob : List ℕ) →
+        trailOf r ≡ walkOn (memory single offsets blob (now (roots .entry)) (now (table .entry))) (drop i (now (src .entry)))) ⌝ }
+{
+    if src.len() - i < 2 {
+        return no_trail();
+    }
+    let root = roots[root_of(src[i], src[i + 1])];
+    enter_at(table, root, src, i, limit(src.len(), i))
+}
+
+// The walk from the place i of the input, as numbers.
 pub fn walk_at(roots: &[u64], table: &[u64], src: &[u8], i: usize) -> Walk
     requires { ⌜ (i < length (now src)) × (65536 ≤ length (now roots)) ⌝ }
     ensures { λ r. ⌜ ((single : List ℤ) (offsets blob : List ℕ) →
         walkOf r ≡ walkOn (memory single offsets blob (now (roots .entry)) (now (table .entry))) (drop i (now (src .entry)))) ⌝ }
 {
-    if src.len() - i < 2 {
+    let trail = trail_at(roots, table, src, i);
+    let id = id_in(trail.best);
+    let base = trail.word >> 32;
+    if id == 0 {
         return Walk {
-            id: 0,
+            id,
             len: 0,
-            used: 0,
-            base: 0,
+            used: trail.used,
+            base,
         };
     }
-    let root = roots[root_of(src[i], src[i + 1])];
-    enter_at(table, root, src, i, limit(src.len(), i))
+    Walk {
+        id,
+        len: trail.len,
+        used: trail.used,
+        base,
+    }
 }
 
 // The match of one byte: its entry in `single`, of which a negative one is none.
@@ -178,19 +215,18 @@ fn one_byte(single: &[i32], byte: u8) -> Match
 pub fn match_at(single: &[i32], roots: &[u64], table: &[u64], src: &[u8], i: usize) -> Match
     requires { ⌜ (i < length (now src)) × (256 ≤ length (now single)) × (65536 ≤ length (now roots)) ⌝ }
     ensures { λ r. ⌜ ((offsets blob : List ℕ) →
-        matchOf r ≡ matchOn (memory (now (single .entry)) offsets blob (now (roots .entry)) (now (table .entry))) (drop i (now (src .entry)))) ⌝ }
+        matchOf r ≡ matchOn (memory (now (single .entry)) offsets blob (now (roots .entry)) (now (table .entry)))
+        (drop i (now (src .entry)))) ⌝ }
 {
-    let walk = walk_at(roots, table, src, i);
-    if walk.id != 0 {
-        return Match::Found {
-            id: walk.id,
-            len: walk.len,
-        };
+    let trail = trail_at(roots, table, src, i);
+    let id = id_in(trail.best);
+    if id != 0 {
+        return Match::Found { id, len: trail.len };
     }
     one_byte(single, src[i])
 }
 
-// Whether a token of two or more bytes starts with this byte: its row of roots has a word that is not 0.
+// Whether the byte alone is undecided: its row of roots has a word that is not 0.
 pub fn row_open(roots: &[u64], first: u8) -> bool
     requires { ⌜ 65536 ≤ length (now roots) ⌝ }
     ensures { λ r. ⌜ ((single : List ℤ) (offsets blob table : List ℕ) →
@@ -231,10 +267,9 @@ pub fn encode_sequential_bytes(
     src: &[u8],
     out: &mut [u32],
 ) -> Encoded
-    ensures answer { λ r. ⌜ answerOf r ≡ encodeOn (memory (now (single .entry)) (now (offsets .entry)) (now (blob .entry)) (now (roots .entry)) (now (table .entry)))
-        (length (now (out .entry))) (now (src .entry)) .answer ⌝ }
-    ensures cells { λ r. ⌜ now (out .exit) ≡ over (encodeOn (memory (now (single .entry)) (now (offsets .entry)) (now (blob .entry)) (now (roots .entry)) (now (table .entry)))
-        (length (now (out .entry))) (now (src .entry)) .cells) (now (out .entry)) ⌝ }
+    ensures { λ r. ⌜ Answered (encodeOn
+        (memory (now (single .entry)) (now (offsets .entry)) (now (blob .entry)) (now (roots .entry)) (now (table .entry)))
+        (length (now (out .entry))) (now (src .entry))) r (now (out .entry)) (now (out .exit)) ⌝ }
 {
     if short_memory(single, offsets, roots) {
         return Encoded::ShortMemory;
@@ -242,12 +277,13 @@ pub fn encode_sequential_bytes(
     let mut i: usize = 0;
     let mut n: usize = 0;
     while i < src.len() {
+        let byte = src[i];
         let found = match_at(single, roots, table, src, i);
         let Match::Found { id, len } = found else {
             return Encoded::NoToken {
                 count: n,
                 offset: i,
-                byte: src[i],
+                byte,
             };
         };
         if n >= out.len() {

@@ -1,14 +1,13 @@
 // Whole encoding.
 ghost use mathlib.Core.Path.{_≡_};
 ghost use lib.ListN.{length};
-ghost use Rattle.spec.specs.Lists.{over};
 ghost use Rattle.spec.specs.Memory.{memory};
 ghost use Rattle.spec.specs.Encode.{encodeOn};
 ghost use Rattle.encoding.specs.Answers.{answerOf};
-ghost use Rattle.rwkv_tokenizer.specs.Report.{answerIs, reportOf};
-use encoding::Encoded;
+ghost use Rattle.rwkv_tokenizer.specs.Report.{answerIs, Reported};
 use crate::report;
 use crate::report::Answer;
+use encoding::Encoded;
 
 // An encoding's answer, with its number.
 fn numbered(encoded: Encoded) -> Answer
@@ -58,15 +57,9 @@ pub extern "C" fn rwkv_encode(
     out: &mut [u32],
     report: &mut [u64; 3],
 ) -> u32
-    ensures number { λ r. ⌜ r ≡ encodeOn
+    ensures { λ r. ⌜ Reported (encodeOn
         (memory (now (single .entry)) (now (offsets .entry)) (now (blob .entry)) (now (roots .entry)) (now (table .entry)))
-        (length (now (out .entry))) (now (src .entry)) .answer .number ⌝ }
-    ensures report { λ _. ⌜ now (report .exit) ≡ reportOf (encodeOn
-        (memory (now (single .entry)) (now (offsets .entry)) (now (blob .entry)) (now (roots .entry)) (now (table .entry)))
-        (length (now (out .entry))) (now (src .entry)) .answer) ⌝ }
-    ensures cells { λ _. ⌜ now (out .exit) ≡ over (encodeOn
-        (memory (now (single .entry)) (now (offsets .entry)) (now (blob .entry)) (now (roots .entry)) (now (table .entry)))
-        (length (now (out .entry))) (now (src .entry)) .cells) (now (out .entry)) ⌝ }
+        (length (now (out .entry))) (now (src .entry))) r (now (report .exit)) (now (out .entry)) (now (out .exit)) ⌝ }
 {
     let encoded = encoding::encode_sequential_bytes(single, offsets, blob, roots, table, src, out);
     let answer = numbered(encoded);

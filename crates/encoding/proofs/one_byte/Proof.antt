@@ -1,25 +1,22 @@
 -- `encoding::one_byte` meets its contract. A signed local holds bits, and what is read back from them is the entry. Assumes nothing.
 use mathlib.Core.Path.{_≡_, refl, sym, ap, _∙_, subst}
 use mathlib.Core.Bool.{true, false, false≢true, true≢false}
-use Prim.Native.Nat.{ℕ, _<_}
 use native.Mathlib.Omega.{arith}
 use lib.IntN.{ℤ, pos, negsuc, natAbs}
 use lib.ListN.{getD}
 use lib.Signed.{leZ, nonNeg}
-use denote.Ref.{now}
 use lib.Dec.{T}
+use denote.Ref.{now}
 use borrow.Author.Tests.{le-leb}
 use mir.Syntax.{w32}
 use mir.Val.{toZ, ofZ, SFits, Fits}
 use mir.Facts.{toZ-ofZ}
-use Rattle.spec.specs.Match.{Match, nothing, found, one}
 use borrow.Author.Needs.{needs, sfits-of}
+use Rattle.spec.specs.Match.{nothing, found, one}
 use Rattle.encoding.proofs.one_byte.Statement.{statement}
 use Rattle.encoding.proofs.one_byte.Tie as tie
-use Rattle.encoding.proofs.one_byte.Reads as reads
-use Rattle.encoding.proofs.one_byte.Lts as lts
 
--- what the machine reads back from an entry's bits is the entry
+-- what is read back from an entry's bits
 abbrev back : ℤ → ℤ
 back z = toZ w32 (ofZ w32 z)
 
@@ -35,25 +32,23 @@ none-below : (z : ℤ) → SFits w32 z → leZ (pos 0) (back z) ≡ false → no
 none-below (pos n) f t = absurd (true≢false (sym (le-leb 0 n (omega arith)) ∙ ap (leZ (pos 0)) (sym (toZ-ofZ f)) ∙ t))
 none-below (negsuc n) f t = refl
 
--- src/lib.rt:166:14
+abbrev entry : tie.Start → ℤ
+entry s = getD (now (s .args .single)) (s .args .byte) (pos 0)
+
 mul-id : tie.Need-mul-id
 mul-id c = search needs
 
--- src/lib.rt:166:14
 shared-slice-copy-out-id : tie.Need-shared-slice-copy-out-id
 shared-slice-copy-out-id c = search needs
 
--- src/lib.rt:169:17
 cast-t10 : tie.Need-cast-t10
-cast-t10 c = casts (getD (now (c .before .before .args .single)) (c .before .before .args .byte) (pos 0)) (sfits-of (c .before .id .given)) (c .if1 .taken)
+cast-t10 c = casts (entry (c .before .before)) (sfits-of (c .before .id .given)) (c .if1 .taken)
 
--- src/lib.rt:162:1
 returns : tie.Need-returns
-returns c = handed-out (getD (now (c .before .before .args .single)) (c .before .before .args .byte) (pos 0)) (sfits-of (c .before .id .given)) (c .if1 .taken)
+returns c = handed-out (entry (c .before .before)) (sfits-of (c .before .id .given)) (c .if1 .taken)
 
--- src/lib.rt:162:1
 returns-2 : tie.Need-returns-2
-returns-2 c = none-below (getD (now (c .before .before .args .single)) (c .before .before .args .byte) (pos 0)) (sfits-of (c .before .id .given)) (c .if1 .left)
+returns-2 c = none-below (entry (c .before .before)) (sfits-of (c .before .id .given)) (c .if1 .left)
 
 pub one-byte-spec : {M : Type 1} → statement M
 one-byte-spec = tie.close (tie.spec mul-id shared-slice-copy-out-id cast-t10 returns returns-2)

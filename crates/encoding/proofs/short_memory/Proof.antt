@@ -1,23 +1,17 @@
-use mathlib.Core.Path.{_≡_, refl, sym, ap, ap₂, _∙_, subst}
-use mathlib.Core.Bool.{Bool, true, false, _||_, or-true}
+-- `encoding::short_memory` meets its contract: the three tests are those of `tooShort`. Assumes nothing.
 use borrow.Author.Tests.{lt-ltb, le-ltb}
 use Rattle.spec.specs.Memory.{tooShort}
 use Rattle.encoding.proofs.short_memory.Statement.{statement}
 use Rattle.encoding.proofs.short_memory.Tie as tie
-use Rattle.encoding.proofs.short_memory.Reads as reads
-use Rattle.encoding.proofs.short_memory.Lts as lts
 
--- src/lib.rt:222:9
 returns : tie.Need-returns
 unfolding tooShort
 returns c blob table = rw (lt-ltb _ _ (c .if1 .taken))
 
--- src/lib.rt:225:9
 returns-2 : tie.Need-returns-2
 unfolding tooShort
 returns-2 c blob table = rw (le-ltb _ _ (c .before .if1 .left), lt-ltb _ _ (c .if2 .taken))
 
--- src/lib.rt:217:1
 returns-3 : tie.Need-returns-3
 unfolding tooShort
 returns-3 c blob table = rw (le-ltb _ _ (c .before .if1 .left), le-ltb _ _ (c .if2 .left))

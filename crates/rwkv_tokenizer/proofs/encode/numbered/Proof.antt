@@ -1,45 +1,34 @@
 -- `rwkv_tokenizer::encode::numbered` meets its contract: each case has its number and values. Assumes nothing.
 use mathlib.Core.Path.{sym, ap}
-use Rattle.encoding.specs.Answers.{answerOf}
 use borrow.Author.Needs.{needs}
+use Rattle.encoding.specs.Answers.{answerOf}
 use Rattle.rwkv_tokenizer.proofs.encode.numbered.Statement.{statement}
 use Rattle.rwkv_tokenizer.proofs.encode.numbered.Tie as tie
-use Rattle.rwkv_tokenizer.proofs.encode.numbered.Reads as reads
-use Rattle.rwkv_tokenizer.proofs.encode.numbered.Lts as lts
 
--- src/encode.rt:18:26
 enum-known-encoded : tie.Need-enum-known-encoded
 enum-known-encoded c = search needs
 
--- src/encode.rt:24:33
 enum-told : tie.Need-enum-told
 enum-told c = search needs
 
--- src/encode.rt:31:13
 enum-known-encoded-2 : tie.Need-enum-known-encoded-2
 enum-known-encoded-2 c = search needs
 
--- src/encode.rt:38:20
 cast-t12 : tie.Need-cast-t12
 cast-t12 c = search needs
 
--- src/encode.rt:40:25
 enum-known-encoded-3 : tie.Need-enum-known-encoded-3
 enum-known-encoded-3 c = search needs
 
--- src/encode.rt:14:1
 returns : tie.Need-returns
 returns c = sym (ap answerOf (c .before .encoded .given .1))
 
--- src/encode.rt:14:1
 returns-2 : tie.Need-returns-2
 returns-2 c = sym (ap answerOf (c .enum-told .given .1))
 
--- src/encode.rt:14:1
 returns-3 : tie.Need-returns-3
 returns-3 c = sym (ap answerOf (c .before .encoded2 .given .1))
 
--- src/encode.rt:14:1
 returns-4 : tie.Need-returns-4
 returns-4 c = sym (ap answerOf (c .before .encoded3 .given .1))
 
