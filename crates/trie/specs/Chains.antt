@@ -1,23 +1,26 @@
 -- Chains of links, numbers of nodes, and what a search along a chain finds. For the proofs. Assumes nothing.
-use mathlib.Core.Path.{_≡_, refl, sym, ap, ap₂, _∙_, subst}
+use mathlib.Core.Path.{_≡_, refl, sym, ap, _∙_, subst}
 use mathlib.Core.Logic.{_⊎_, inl, inr}
-use mathlib.Core.Bool.{Bool, true, false, cond}
-use mathlib.Core.List.{List, [], _∷_, _++_, map, List·Memᴰ as Mem, List·Memᴰ·head as here, List·Memᴰ·tail as there, List·Memᴰ·not-nil as not-nil, List·Memᴰ·cases-cons as cases-cons, List·Memᴰ·append-cases as append-cases, List·Memᴰ·eq-of-singleton as only, Memᴰ·append-left as mem-left, Memᴰ·append-right as mem-right, Memᴰ·cast as mem-cast, Memᴰ·map as mem-map, Memᴰ·of-map as of-map}
+use mathlib.Core.Bool.{true, false, cond}
+use mathlib.Core.List.{List, [], _∷_, _++_, map, List·Memᴰ as Mem, List·Memᴰ·head as here, List·Memᴰ·tail as there}
+use mathlib.Core.List.{List·Memᴰ·not-nil as not-nil, List·Memᴰ·cases-cons as cases-cons, List·Memᴰ·append-cases as append-cases}
+use mathlib.Core.List.{List·Memᴰ·eq-of-singleton as only, Memᴰ·append-left as mem-left, Memᴰ·append-right as mem-right}
+use mathlib.Core.List.{Memᴰ·cast as mem-cast, Memᴰ·map as mem-map, Memᴰ·of-map as of-map}
 use Prim.Native.Nat.{ℕ, zero, suc, _+_, _-_, _≤_, _<_}
 use native.Mathlib.Omega.{arith}
 use lib.Dec.{eqb}
-use lib.ListN.{length, getD, length-append}
+use lib.ListN.{length, getD}
 use borrow.Author.Tests.{eqb-true, eqb-false}
 use Rattle.spec.specs.Lists.{same, has, Bytes}
 use Rattle.spec.specs.Trie.{labels}
 use Rattle.laws.specs.Tests.{either, clash, no-true, same-eq, same-refl, has-mem, mem-has}
 use Rattle.laws.specs.Nodes.{label-node, node-label, labels-short}
-use Rattle.laws.specs.Numbered.{place-of, number, place-lt, place-stays, place-new, Fresh, labels-fresh, pigeon}
+use Rattle.laws.specs.Numbered.{number, place-lt, place-stays, place-new, Fresh, labels-fresh, pigeon}
 use Rattle.laws.specs.Chain.{kids, seek, seek-hit, seek-miss}
 use Rattle.trie.specs.Run.{see}
 use Rattle.trie.specs.Insertion.{find}
 use Rattle.trie.specs.Turns.{yes-case, no-case, find-end, find-here, find-on}
-use Rattle.trie.specs.Stands.{final, Chain, num, NodeAt, Tree}
+use Rattle.trie.specs.Stands.{final, Chain, num, Tree}
 use Rattle.trie.specs.declared.Node.{Node}
 
 -- ---- lists
@@ -110,7 +113,8 @@ find-seek M made b (suc f) h (c ∷ cs) n s k =
     go : (eqb (M c .label) b ≡ true) ⊎ (eqb (M c .label) b ≡ false) → find M made b f (M c .next) ≡ seek (λ x. M x .label) b cs
         → find M made b (suc f) c ≡ cond (eqb (M c .label) b) c (seek (λ x. M x .label) b cs)
     go (inl e) r =
-        find-here M made b (suc f) c (M c) (omega arith) (λ z. omega (arith, pos)) lt refl (eqb-true (M c .label) b e) ∙ sym (yes-case _ _ e)
+        find-here M made b (suc f) c (M c) (omega arith) (λ z. omega (arith, pos)) lt refl (eqb-true (M c .label) b e)
+        ∙ sym (yes-case _ _ e)
     go (inr e) r =
         let q : suc f - 1 ≡ f = omega arith in
         find-on M made b (suc f) c (M c) (omega arith) (λ z. omega (arith, pos)) lt refl (eqb-false (M c .label) b e)
@@ -207,13 +211,15 @@ module _ {ps : List (List ℕ)} {I : List ℕ → ℕ} {m : List ℕ} (T : Tree 
   pub find-child : (p : List ℕ) (b : ℕ) → Mem p ps
       → find (see m) (suc (length ps)) b (suc (length ps)) (see m (number ps p) .head) ≡ num ps (p ++ (b ∷ []))
   find-child p b mp =
-      find-seek (see m) (suc (length ps)) b (suc (length ps)) (see m (number ps p) .head) (kids ps p) (let s = kids-short ps p in omega arith)
+      find-seek (see m) (suc (length ps)) b (suc (length ps)) (see m (number ps p) .head) (kids ps p)
+      (let s = kids-short ps p in omega arith)
       (λ c k. kid-lt ps p k) (T .node p mp .chain)
       ∙ go (member ps (p ++ (b ∷ [])))
     where
       inj : (x y : ℕ) → Mem x (kids ps p) → Mem y (kids ps p) → see m x .label ≡ see m y .label → x ≡ y
       inj x y mx my e =
-          sym (kid-of ps p mx .2) ∙ ap (λ (l : ℕ). number ps (p ++ (l ∷ []))) (sym (kid-label p mx) ∙ e ∙ kid-label p my) ∙ kid-of ps p my .2
+          sym (kid-of ps p mx .2) ∙ ap (λ (l : ℕ). number ps (p ++ (l ∷ []))) (sym (kid-label p mx) ∙ e ∙ kid-label p my)
+          ∙ kid-of ps p my .2
 
       go : Mem (p ++ (b ∷ [])) ps ⊎ (Mem (p ++ (b ∷ [])) ps → ⊥) → seek (λ c. see m c .label) b (kids ps p) ≡ num ps (p ++ (b ∷ []))
       go (inl k) =

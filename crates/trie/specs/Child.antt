@@ -1,8 +1,9 @@
 -- A new child, a new root and a new id keep what the memory stands for. For the proofs. Assumes nothing.
 use mathlib.Core.Path.{_≡_, refl, sym, ap, ap₂, _∙_, subst}
 use mathlib.Core.Logic.{_⊎_, inl, inr}
-use mathlib.Core.Bool.{Bool, true, false, cond}
-use mathlib.Core.List.{List, [], _∷_, _++_, List·Memᴰ as Mem, List·Memᴰ·head as here, Memᴰ·append-left as mem-left, Memᴰ·append-right as mem-right, Memᴰ·cast as mem-cast}
+use mathlib.Core.Bool.{true, false, cond}
+use mathlib.Core.List.{List, [], _∷_, _++_, List·Memᴰ as Mem, List·Memᴰ·head as here, Memᴰ·append-left as mem-left}
+use mathlib.Core.List.{Memᴰ·append-right as mem-right, Memᴰ·cast as mem-cast}
 use Prim.Native.Nat.{ℕ, suc, _+_, _*_, _%_, _^_, _≤_, _<_}
 use native.Mathlib.Omega.{arith}
 use lib.Dec.{eqb}
@@ -13,11 +14,12 @@ use Rattle.laws.specs.Tests.{either}
 use Rattle.laws.specs.Numbered.{number, Fresh, fresh-snoc}
 use Rattle.laws.specs.Grow.{snoc-inj}
 use Rattle.laws.specs.Chain.{kids, number-inj, kids-self, kids-other, one-parent, kids-fresh}
-use Rattle.trie.specs.Run.{room, see, setNode, Fits, see-fits, see-same, see-other}
+use Rattle.trie.specs.Run.{room, see, setNode, see-fits, see-same, see-other}
 use Rattle.trie.specs.Insertion.{leaf, grown, withTerm, addChild}
 use Rattle.trie.specs.Turns.{yes-case, no-case}
 use Rattle.trie.specs.Stands.{final, Chain, num, NodeAt, NodeIs, Tree, Growing}
-use Rattle.trie.specs.Chains.{final-snoc, snoc-view, snoc-mem, fresh-last, chain-frame, chain-join, chain-head, equal, num-in, num-other, number-lt, number-stays, number-new, kid-of, kid-lt, kids-length, labels-few, no-kids}
+use Rattle.trie.specs.Chains.{final-snoc, snoc-view, snoc-mem, fresh-last, chain-frame, chain-join, chain-head, equal, num-in}
+use Rattle.trie.specs.Chains.{num-other, number-lt, number-stays, number-new, kid-of, kid-lt, kids-length, labels-few, no-kids}
 use Rattle.trie.specs.Linked.{Alike, alike-same, leaf-fits, Linked, linked-first, linked-more}
 use Rattle.trie.specs.declared.Node.{Node}
 
@@ -59,7 +61,8 @@ node-grown : (m m' : List ℕ) (made k b : ℕ) (l : List ℕ) (id lab : ℕ) �
     → ((c : ℕ) → Mem c l → c < made) → see m k .tail ≡ final l → NodeAt m k l id lab → NodeAt m' k (l ++ (made ∷ [])) id lab
 unfolding grown leaf
 node-grown m m' made k b l id lab L pos small fr lts tl n = record {
-  chain = subst (λ (h : ℕ). Chain (λ c. see m' c .next) h (l ++ (made ∷ []))) (sym (ap (λ (x : Node). x .head) (L .par))) (go (snoc-view l));
+  chain =
+      subst (λ (h : ℕ). Chain (λ c. see m' c .next) h (l ++ (made ∷ []))) (sym (ap (λ (x : Node). x .head) (L .par))) (go (snoc-view l));
   count = ap (λ (x : Node). x .count) (L .par) ∙ ap (λ (x : ℕ). (x + 1) % 2 ^ 16) (n .count) ∙ fits;
   term = ap (λ (x : Node). x .term) (L .par) ∙ n .term;
   label = ap (λ (x : Node). x .label) (L .par) ∙ n .label;
@@ -74,7 +77,8 @@ node-grown m m' made k b l id lab L pos small fr lts tl n = record {
     first : ℕ
     first = cond (eqb (see m k .head) 0) made (see m k .head)
 
-    go : (l ≡ []) ⊎ ((i : List ℕ) × (l ≡ i ++ (final l ∷ []))) → Chain (λ c. see m' c .next) (cond (eqb (see m k .head) 0) made (see m k .head)) (l ++ (made ∷ []))
+    go : (l ≡ []) ⊎ ((i : List ℕ) × (l ≡ i ++ (final l ∷ [])))
+        → Chain (λ c. see m' c .next) (cond (eqb (see m k .head) 0) made (see m k .head)) (l ++ (made ∷ []))
     go (inl e) =
         let z : see m k .head ≡ 0 = subst (Chain (λ c. see m c .next) (see m k .head)) e (n .chain) in
         subst (λ (x : List ℕ). Chain (λ c. see m' c .next) (cond (eqb (see m k .head) 0) made (see m k .head)) (x ++ (made ∷ []))) (sym e)
@@ -82,14 +86,16 @@ node-grown m m' made k b l id lab L pos small fr lts tl n = record {
     go (inr r) =
         let i = r .0 in
         let t = final l in
-        let ch : Chain (λ c. see m c .next) (see m k .head) (i ++ (t ∷ [])) = subst (Chain (λ c. see m c .next) (see m k .head)) (r .1) (n .chain) in
+        let ch : Chain (λ c. see m c .next) (see m k .head) (i ++ (t ∷ [])) = subst (Chain (λ c. see m c .next) (see m k .head)) (r .1)
+        (n .chain) in
         let nz : see m k .head ≡ 0 → ⊥ = chain-head (λ c. see m c .next) i (see m k .head) t ch in
         let fi : Fresh (i ++ (t ∷ [])) = subst Fresh (r .1) fr in
         let up : see m' t .next ≡ made = ap (λ (x : ℕ). see m' x .next) (sym tl) ∙ L .last nz in
         let old : (x : ℕ) → Mem x i → see m' x .next ≡ see m x .next =
         λ x mx. L .nxt x (λ e. let lt = lts x (subst (Mem x) (sym (r .1)) (mem-left (t ∷ []) mx)) in omega arith)
         (inr (λ e. fresh-last i t x fi mx (e ∙ tl))) in
-        subst (λ (x : List ℕ). Chain (λ c. see m' c .next) (cond (eqb (see m k .head) 0) made (see m k .head)) (x ++ (made ∷ []))) (sym (r .1))
+        subst (λ (x : List ℕ). Chain (λ c. see m' c .next) (cond (eqb (see m k .head) 0) made (see m k .head)) (x ++ (made ∷ [])))
+        (sym (r .1))
         (subst (λ (h : ℕ). Chain (λ c. see m' c .next) h ((i ++ (t ∷ [])) ++ (made ∷ []))) (sym (no-case _ _ (ne-eqb (see m k .head) 0 nz)))
         (chain-join (λ c. see m c .next) (λ c. see m' c .next) i (see m k .head) t (made ∷ []) old (up, pos, end) ch))
 
@@ -168,7 +174,8 @@ module _ {ps : List (List ℕ)} {I : List ℕ → ℕ} {rs m : List ℕ} (G : Gr
       go (inl e) = subst (NodeIs ps' I m') (sym e)
           (node-cast (sym (number-stays (q ∷ []) mp)) (sym (kids-self ps p b new)) refl refl
           (node-grown m m' made k b (kids ps p) (I p) (final p) link (omega arith)
-          (let a = kids-length ps p in let c = labels-few T p in omega arith) (kids-fresh ps p (T .fresh)) (λ c mc. kid-lt ps p mc) (G .last p mp) np))
+          (let a = kids-length ps p in let c = labels-few T p in omega arith) (kids-fresh ps p (T .fresh)) (λ c mc. kid-lt ps p mc)
+          (G .last p mp) np))
       go (inr ne) =
           node-cast (sym (number-stays (q ∷ []) mx)) (sym (kids-other ps p b new x ne)) refl refl
           (node-alike m m' (number ps x) (kids ps x) (I x) (final x) (alike x mx ne) (others x ne) (T .node x mx))
@@ -201,7 +208,8 @@ module _ {ps : List (List ℕ)} {I : List ℕ → ℕ} {rs m : List ℕ} (G : Gr
       node = λ x mx. node' x (snoc-mem ps mx);
     };
     root = λ a c ha hc. G .root a c ha hc
-        ∙ sym (num-other ps q (a ∷ c ∷ []) (λ e. let l = q-long in let g = ap length e in let s : length (a ∷ c ∷ []) ≡ 2 = refl in omega arith));
+        ∙ sym (num-other ps q (a ∷ c ∷ [])
+        (λ e. let l = q-long in let g = ap length e in let s : length (a ∷ c ∷ []) ≡ 2 = refl in omega arith));
     last = λ x mx. last' x (snoc-mem ps mx);
     none = λ x h n. G .none x h (λ mx. n (mem-left (q ∷ []) mx));
   }
@@ -263,10 +271,12 @@ module _ {ps : List (List ℕ)} {I : List ℕ → ℕ} {rs m : List ℕ} (G : Gr
 
   rlast : (x : List ℕ) → Mem x ps ⊎ (x ≡ rq) → see rm (number rps x) .tail ≡ final (kids rps x)
   rlast x (inl mx) =
-      ap (λ (z : ℕ). see rm z .tail) (number-stays (rq ∷ []) mx) ∙ ap (λ (n : Node). n .tail) (old (number ps x) (number-lt mx)) ∙ G .last x mx
+      ap (λ (z : ℕ). see rm z .tail) (number-stays (rq ∷ []) mx) ∙ ap (λ (n : Node). n .tail) (old (number ps x) (number-lt mx))
+      ∙ G .last x mx
       ∙ ap final (sym (kids-old x mx))
   rlast x (inr e) =
-      ap (λ (z : List ℕ). see rm (number rps z) .tail) e ∙ ap (λ (z : ℕ). see rm z .tail) (number-new ps rq new) ∙ leaf-tail rm rmade b at-new
+      ap (λ (z : List ℕ). see rm (number rps z) .tail) e ∙ ap (λ (z : ℕ). see rm z .tail) (number-new ps rq new)
+      ∙ leaf-tail rm rmade b at-new
       ∙ ap final (sym kids-none) ∙ ap (λ (z : List ℕ). final (kids rps z)) (sym e)
 
   rroot : (c d : ℕ) → c < 256 → d < 256 → getD rrs (c * 256 + d) 0 ≡ num rps (c ∷ d ∷ [])
@@ -279,7 +289,8 @@ module _ {ps : List (List ℕ)} {I : List ℕ → ℕ} {rs m : List ℕ} (G : Gr
           ap₂ (λ (x y : ℕ). getD rrs (x * 256 + y) 0) ec ed ∙ getD-set-same rs (a * 256 + b) rmade 0 (omega arith)
           ∙ sym (number-new ps rq new) ∙ sym (num-in (mem-right ps (here refl))) ∙ ap (num rps) (sym e)
       go (inr n) =
-          getD-set-other rs (a * 256 + b) (c * 256 + d) rmade 0 (λ e. n (let ec : c ≡ a = omega arith in let ed : d ≡ b = omega arith in cc))
+          getD-set-other rs (a * 256 + b) (c * 256 + d) rmade 0
+          (λ e. n (let ec : c ≡ a = omega arith in let ed : d ≡ b = omega arith in cc))
           ∙ G .root c d hc hd ∙ sym (num-other ps rq (c ∷ d ∷ []) n)
 
   pub root-keeps : Growing rps I rrs rm
@@ -330,16 +341,19 @@ module _ {ps : List (List ℕ)} {I : List ℕ → ℕ} {rs m : List ℕ} (G : Gr
     where
       go : (eqb j tk ≡ true) ⊎ (eqb j tk ≡ false) → see tm j .next ≡ see m j .next
       go (inl e) =
-          ap (λ (i : ℕ). see tm i .next) (eqb-true j tk e) ∙ ap (λ (n : Node). n .next) at-node ∙ ap (λ (i : ℕ). see m i .next) (sym (eqb-true j tk e))
+          ap (λ (i : ℕ). see tm i .next) (eqb-true j tk e) ∙ ap (λ (n : Node). n .next) at-node
+          ∙ ap (λ (i : ℕ). see m i .next) (sym (eqb-true j tk e))
       go (inr e) = ap (λ (n : Node). n .next) (see-other m tk tn j (eqb-false j tk e))
 
   tnode : (x : List ℕ) → Mem x ps → (x ≡ p) ⊎ (x ≡ p → ⊥) → NodeIs ps J tm x
   tnode x mx (inr ne) = node-cast refl refl (sym (rest x ne)) refl
-      (node-alike m tm (number ps x) (kids ps x) (I x) (final x) (alike-same (see-other m tk tn (number ps x) (λ e. ne (number-inj ps mx mp e))))
+      (node-alike m tm (number ps x) (kids ps x) (I x) (final x)
+      (alike-same (see-other m tk tn (number ps x) (λ e. ne (number-inj ps mx mp e))))
       (λ c mc. next-same c) (G .tree .node x mx))
   tnode x mx (inl e) = subst (NodeIs ps J tm) (sym e) record {
     chain = subst (λ (h : ℕ). Chain (λ c. see tm c .next) h (kids ps p)) (sym (ap (λ (n : Node). n .head) at-node))
-        (chain-frame (λ c. see m c .next) (λ c. see tm c .next) (kids ps p) (see m tk .head) (λ c mc. next-same c) (G .tree .node p mp .chain));
+        (chain-frame (λ c. see m c .next) (λ c. see tm c .next) (kids ps p) (see m tk .head) (λ c mc. next-same c)
+        (G .tree .node p mp .chain));
     count = ap (λ (n : Node). n .count) at-node ∙ G .tree .node p mp .count;
     term = ap (λ (n : Node). n .term) at-node ∙ sym is;
     label = ap (λ (n : Node). n .label) at-node ∙ G .tree .node p mp .label;
@@ -347,7 +361,8 @@ module _ {ps : List (List ℕ)} {I : List ℕ → ℕ} {rs m : List ℕ} (G : Gr
 
   tlast : (x : List ℕ) → Mem x ps → (x ≡ p) ⊎ (x ≡ p → ⊥) → see tm (number ps x) .tail ≡ final (kids ps x)
   tlast x mx (inl e) =
-      ap (λ (z : List ℕ). see tm (number ps z) .tail) e ∙ ap (λ (n : Node). n .tail) at-node ∙ G .last p mp ∙ ap (λ (z : List ℕ). final (kids ps z)) (sym e)
+      ap (λ (z : List ℕ). see tm (number ps z) .tail) e ∙ ap (λ (n : Node). n .tail) at-node ∙ G .last p mp
+      ∙ ap (λ (z : List ℕ). final (kids ps z)) (sym e)
   tlast x mx (inr ne) =
       ap (λ (n : Node). n .tail) (see-other m tk tn (number ps x) (λ e. ne (number-inj ps mx mp e))) ∙ G .last x mx
 

@@ -1,7 +1,8 @@
 -- The labels of a node, read off the chain of its children. Assumes nothing.
 use mathlib.Core.Path.{_≡_, refl, sym, ap, ap₂, _∙_, subst}
 use mathlib.Core.Bool.{Bool, true, false, cond}
-use mathlib.Core.List.{List, [], _∷_, _++_, map, append-nil, append-assoc, List·Memᴰ as Mem, List·Memᴰ·head as here, List·Memᴰ·tail as there}
+use mathlib.Core.List.{List, [], _∷_, _++_, map, append-nil, append-assoc, List·Memᴰ as Mem, List·Memᴰ·head as here}
+use mathlib.Core.List.{List·Memᴰ·tail as there}
 use Prim.Native.Nat.{ℕ, zero, suc, _+_, _-_, _≤_, _<_}
 use native.Mathlib.Omega.{arith}
 use lib.Dec.{eqb, leb}
@@ -114,4 +115,5 @@ labels-are {ps} {I} {m} T made node p em mp en =
 pub gathered-labels : (m : List ℕ) (made node r : ℕ) (out out' : List ℕ) → Gathered (labelsOn m made node) out out' r
     → (ps : List (List ℕ)) (I : List ℕ → ℕ) (p : List ℕ) → Tree ps I m → made ≡ suc (length ps) → Mem p ps → node ≡ number ps p
     → Gathered (labels ps p) out out' r
-gathered-labels m made node r out out' g ps I p T em mp en = subst (λ (ls : List ℕ). Gathered ls out out' r) (labels-are T made node p em mp en) g
+gathered-labels m made node r out out' g ps I p T em mp en =
+    subst (λ (ls : List ℕ). Gathered ls out out' r) (labels-are T made node p em mp en) g

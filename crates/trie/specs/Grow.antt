@@ -1,14 +1,15 @@
--- Insertion is right: where roots and nodes stand for tokens, the answer is that of the table of refusals, and afterwards they stand for the
--- tokens with this one. `insert-right` is what the contract of `insert` cites; `stands-none` and `stands-one` are for the builder: the start,
--- and tokens of one byte, which make no node. Assumes nothing.
+-- Insertion is right: where roots and nodes stand for tokens, the answer is that of the table of refusals, and afterwards they stand for
+-- the tokens with this one. `insert-right` is what the contract of `insert` cites; `stands-none` and `stands-one` are for the builder: the
+-- start, and tokens of one byte, which make no node. Assumes nothing.
 use mathlib.Core.Path.{_≡_, refl, sym, ap, ap₂, _∙_, subst}
 use mathlib.Core.Logic.{_⊎_, inl, inr}
 use mathlib.Core.Bool.{Bool, true, false, not, _||_, cond}
-use mathlib.Core.List.{List, [], _∷_, _++_, append-nil, append-assoc, List·Memᴰ as Mem, List·Memᴰ·head as here, List·Memᴰ·tail as there, List·Memᴰ·not-nil as not-nil, Memᴰ·append-right as mem-right, Memᴰ·cast as mem-cast}
+use mathlib.Core.List.{List, [], _∷_, _++_, append-nil, append-assoc, List·Memᴰ as Mem, List·Memᴰ·head as here, List·Memᴰ·tail as there}
+use mathlib.Core.List.{List·Memᴰ·not-nil as not-nil, Memᴰ·append-right as mem-right, Memᴰ·cast as mem-cast}
 use Prim.Native.Nat.{ℕ, suc, _+_, _*_, _≤_, _<_}
 use native.Mathlib.Omega.{arith}
 use lib.Dec.{eqb, leb}
-use lib.ListN.{length, getD, set, drop, length-append}
+use lib.ListN.{length, getD, set, length-append}
 use borrow.Author.Tests.{eqb-true, eqb-false, eq-eqb, ne-eqb, le-leb, lt-leb, leb-true, leb-false}
 use Rattle.spec.specs.Lists.{any, fold, same, has, Bytes}
 use Rattle.spec.specs.Token.{Token, idOf, seen}
@@ -19,11 +20,13 @@ use Rattle.laws.specs.Nodes.{Cut, cuts-cut, is-node}
 use Rattle.laws.specs.Numbered.{number}
 use Rattle.laws.specs.Grow.{nodes-snoc, id-snoc}
 use Rattle.trie.specs.Run.{room, see, setNode, length-setNode}
-use Rattle.trie.specs.Insertion.{leaf, withTerm, childOf, addChild, State, state, childMade, descendOn, Rooted, rooted, rootMade, Ended, ended, finishOn, After, after, insertOn}
-use Rattle.trie.specs.Turns.{yes-case, no-case, made-old, made-full, made-new, length-addChild, desc-zero, root-full, root-new, root-old, fin-none, fin-twice, fin-made, Sound, desc-sound, root-sound}
-use Rattle.trie.specs.Stands.{num, Tree, Growing, Stands, answerFor, Grown}
+use Rattle.trie.specs.Insertion.{leaf, withTerm, childOf, addChild, State, state, childMade, descendOn, Rooted, rooted, rootMade}
+use Rattle.trie.specs.Insertion.{Ended, finishOn, After, after, insertOn}
+use Rattle.trie.specs.Turns.{yes-case, no-case, made-old, made-full, made-new, length-addChild, desc-zero, root-full, root-new}
+use Rattle.trie.specs.Turns.{root-old, fin-none, fin-twice, fin-made, Sound, desc-sound, root-sound}
+use Rattle.trie.specs.Stands.{num, Growing, Stands, answerFor, Grown}
 use Rattle.trie.specs.Chains.{snoc-mem, member, num-in, num-out, number-pos, number-lt, number-new, find-child}
-use Rattle.trie.specs.Child.{child-keeps, root-keeps, id-keeps, node-alike}
+use Rattle.trie.specs.Child.{child-keeps, root-keeps, id-keeps}
 use Rattle.trie.specs.declared.Inserted.{Inserted}
 use Rattle.trie.specs.declared.Inserted.the-variants.{Duplicate, NoRoom, Made}
 
@@ -68,12 +71,14 @@ abbrev pub Landed : List (List ℕ) → (List ℕ → ℕ) → List ℕ → ℕ 
 Landed ps' I rs cap q s = Reached ps' I rs cap q s ⊎ TooMany ps' cap s
 
 module _ (I : List ℕ → ℕ) (rs : List ℕ) (cap : ℕ) where
-  step : (m : List ℕ) (k made b : ℕ) (l : List ℕ) → (k ≡ 0 → ⊥) → descendOn cap (state m k made) (b ∷ l) ≡ descendOn cap (childMade cap m made k b) l
+  step : (m : List ℕ) (k made b : ℕ) (l : List ℕ) → (k ≡ 0 → ⊥)
+      → descendOn cap (state m k made) (b ∷ l) ≡ descendOn cap (childMade cap m made k b) l
   unfolding descendOn
   step m k made b l h = no-case _ _ (ne-eqb k 0 h)
 
   -- no room for one node more
-  over-at : (ps : List (List ℕ)) (q : List ℕ) (xs : List (List ℕ)) → (Mem q ps → ⊥) → cap ≤ suc (length ps) → cap < suc (length (fold addNew (addNew ps q) xs))
+  over-at : (ps : List (List ℕ)) (q : List ℕ) (xs : List (List ℕ)) → (Mem q ps → ⊥) → cap ≤ suc (length ps)
+      → cap < suc (length (fold addNew (addNew ps q) xs))
   over-at ps q xs n full =
       subst (λ (z : List (List ℕ)). cap < suc (length (fold addNew z xs))) (sym (new-out ps q n))
       (let a = fold-grows xs (ps ++ (q ∷ [])) in let c = one-more ps q in omega arith)
@@ -84,7 +89,8 @@ module _ (I : List ℕ → ℕ) (rs : List ℕ) (cap : ℕ) where
   desc-land [] ps p m hl G mp h fit =
       inl record { room-left = h; at = ap (number ps) (sym (append-nil p)); count = refl; mem = mem-cast (append-nil p) mp; growing = G }
   desc-land (b ∷ l) ps p m hl G mp h fit =
-      subst (λ (z : List ℕ). Landed (fold addNew (addNew ps q) (extended q l)) I rs cap z (descendOn cap s0 (b ∷ l))) (append-assoc p (b ∷ []) l)
+      subst (λ (z : List ℕ). Landed (fold addNew (addNew ps q) (extended q l)) I rs cap z (descendOn cap s0 (b ∷ l)))
+      (append-assoc p (b ∷ []) l)
       (subst (Landed (fold addNew (addNew ps q) (extended q l)) I rs cap (q ++ l))
       (sym (step m k made b l (λ z. let a = number-pos ps p in omega arith)))
       (go (member ps q) (either (leb cap made)) (λ ps1 m1. desc-land l ps1 q m1 (hl .1))))
@@ -109,7 +115,8 @@ module _ (I : List ℕ → ℕ) (rs : List ℕ) (cap : ℕ) where
           → Landed (fold addNew ps1 (extended q l)) I rs cap (q ++ l) (descendOn cap (state m1 (number ps1 q) (suc (length ps1))) l))
           → Landed (fold addNew (addNew ps q) (extended q l)) I rs cap (q ++ l) (descendOn cap (childMade cap m made k b) l)
       go (inl mq) e r =
-          subst (λ (z : List (List ℕ)). Landed (fold addNew z (extended q l)) I rs cap (q ++ l) (descendOn cap (childMade cap m made k b) l))
+          subst (λ (z : List (List ℕ)). Landed (fold addNew z (extended q l)) I rs cap (q ++ l)
+          (descendOn cap (childMade cap m made k b) l))
           (sym (new-in ps q mq))
           (subst (λ (z : State). Landed (fold addNew ps (extended q l)) I rs cap (q ++ l) (descendOn cap z l))
           (sym (made-old cap m made k b (number ps q) (sym (found ∙ num-in mq)) (λ z. let a = number-pos ps q in omega arith)))
@@ -129,7 +136,8 @@ module _ (I : List ℕ → ℕ) (rs : List ℕ) (cap : ℕ) where
           let nn : made ≡ number (ps ++ (q ∷ [])) q = sym (number-new ps q n) in
           let st : childMade cap m made k b ≡ state (addChild m made k b) (number (ps ++ (q ∷ [])) q) (suc (length (ps ++ (q ∷ [])))) =
           made-new cap m made k b 0 (sym (found ∙ num-out ps q n)) refl lt ∙ ap₂ (λ (x y : ℕ). state (addChild m made k b) x y) nn len in
-          subst (λ (z : List (List ℕ)). Landed (fold addNew z (extended q l)) I rs cap (q ++ l) (descendOn cap (childMade cap m made k b) l))
+          subst (λ (z : List (List ℕ)). Landed (fold addNew z (extended q l)) I rs cap (q ++ l)
+          (descendOn cap (childMade cap m made k b) l))
           (sym (new-out ps q n))
           (subst (λ (z : State). Landed (fold addNew (ps ++ (q ∷ [])) (extended q l)) I rs cap (q ++ l) (descendOn cap z l)) (sym st)
           (r (ps ++ (q ∷ [])) (addChild m made k b) (child-keeps G p b (hl .0) mp n (omega arith)) (mem-right ps (here refl))
@@ -137,7 +145,8 @@ module _ (I : List ℕ → ℕ) (rs : List ℕ) (cap : ℕ) where
 
 -- ---- from the root
 
-module _ {ps : List (List ℕ)} {I : List ℕ → ℕ} {rs m : List ℕ} (G : Growing ps I rs m) (cap : ℕ) (fit : cap ≤ room m) (many : 65536 ≤ length rs)
+module _ {ps : List (List ℕ)} {I : List ℕ → ℕ} {rs m : List ℕ} (G : Growing ps I rs m) (cap : ℕ) (fit : cap ≤ room m)
+    (many : 65536 ≤ length rs)
     (have : suc (length ps) ≤ cap) (a b : ℕ) (ha : a < 256) (hb : b < 256) (l : List ℕ) (hl : Bytes l) where
   abbrev two : List ℕ
   two = a ∷ b ∷ []
@@ -228,10 +237,12 @@ id-else ts t low x ne = id-snoc ts t x low ∙ go (either (eqb (idOf ts x) 0))
   where
     go : (eqb (idOf ts x) 0 ≡ true) ⊎ (eqb (idOf ts x) 0 ≡ false)
         → cond (eqb (idOf ts x) 0) (cond (same x (t .bytes)) (t .id) 0) (idOf ts x) ≡ idOf ts x
-    go (inl e) = yes-case _ _ e ∙ no-case _ _ (no-true (same x (t .bytes)) (λ y. ne (same-eq x (t .bytes) y))) ∙ sym (eqb-true (idOf ts x) 0 e)
+    go (inl e) =
+        yes-case _ _ e ∙ no-case _ _ (no-true (same x (t .bytes)) (λ y. ne (same-eq x (t .bytes) y))) ∙ sym (eqb-true (idOf ts x) 0 e)
     go (inr e) = no-case _ _ e
 
-module _ (ts : List Token) (rs m : List ℕ) (S : Stands ts rs m) (cap : ℕ) (fit : cap ≤ room m) (many : 65536 ≤ length rs) (have : nodeCount ts ≤ cap)
+module _ (ts : List Token) (rs m : List ℕ) (S : Stands ts rs m) (cap : ℕ) (fit : cap ≤ room m) (many : 65536 ≤ length rs)
+    (have : nodeCount ts ≤ cap)
     (a b : ℕ) (ha : a < 256) (hb : b < 256) (l : List ℕ) (hl : Bytes l) (id : ℕ) (idl : 1 ≤ id) (idh : id < 65536) where
   abbrev t : Token
   t = record { id = id; bytes = a ∷ b ∷ l }
@@ -268,7 +279,8 @@ module _ (ts : List Token) (rs m : List ℕ) (S : Stands ts rs m) (cap : ℕ) (f
   nodes-then = sym (nodes-snoc ts t ∙ ap (fold addNew (nodes ts)) cut-top)
 
   land : Landed qs (idOf ts) (w .roots) cap p s
-  land = subst (λ (z : List (List ℕ)). Landed z (idOf ts) (w .roots) cap p s) nodes-then (root-land (S .growing) cap fit many have' a b ha hb l hl)
+  land = subst (λ (z : List (List ℕ)). Landed z (idOf ts) (w .roots) cap p s) nodes-then
+      (root-land (S .growing) cap fit many have' a b ha hb l hl)
 
   id-here : idOf ts p ≡ 0 → idOf (ts ++ (t ∷ [])) p ≡ id
   id-here z = id-snoc ts t p (S .low) ∙ yes-case _ _ (eq-eqb (idOf ts p) 0 z) ∙ yes-case _ _ (same-refl p)
@@ -346,12 +358,14 @@ insert-at : (ts : List Token) (rs m : List ℕ) → Stands ts rs m → (cap : �
 unfolding insertOn
 insert-at ts rs m S cap fit many have [] two hb id idl idh = absurd (omega arith)
 insert-at ts rs m S cap fit many have (a ∷ []) two hb id idl idh = absurd (omega arith)
-insert-at ts rs m S cap fit many have (a ∷ b ∷ l) two hb id idl idh = right ts rs m S cap fit many have a b (hb .0) (hb .1 .0) l (hb .1 .1) id idl idh
+insert-at ts rs m S cap fit many have (a ∷ b ∷ l) two hb id idl idh =
+    right ts rs m S cap fit many have a b (hb .0) (hb .1 .0) l (hb .1 .1) id idl idh
 
 -- of an answer and a memory that are insertOn's
 pub insert-right : (ts : List Token) (rs m : List ℕ) → Stands ts rs m → (cap : ℕ) → cap ≤ room m → 65536 ≤ length rs
     → (made : ℕ) → made ≡ nodeCount ts → made ≤ cap → (bs : List ℕ) → 2 ≤ length bs → Bytes bs → (id : ℕ) → 1 ≤ id → id < 65536
-    → (rs' m' : List ℕ) (r : Inserted) → after rs' m' r ≡ insertOn cap rs m made bs id → Grown ts (record { id = id; bytes = bs }) cap r rs' m'
+    → (rs' m' : List ℕ) (r : Inserted) → after rs' m' r ≡ insertOn cap rs m made bs id
+    → Grown ts (record { id = id; bytes = bs }) cap r rs' m'
 unfolding nodeCount
 insert-right ts rs m S cap fit many made em have bs two hb id idl idh rs' m' r e =
     let n : made ≡ suc (length (nodes ts)) = omega (arith, em) in
@@ -385,7 +399,8 @@ pub nodes-one : (ts : List Token) (id b : ℕ) → nodes (ts ++ (record { id = i
 unfolding cuts extended fold
 nodes-one ts id b = nodes-snoc ts (record { id = id; bytes = b ∷ [] })
 
-pub stands-one : (ts : List Token) (rs m : List ℕ) (id b : ℕ) → 1 ≤ id → Stands ts rs m → Stands (ts ++ (record { id = id; bytes = b ∷ [] } ∷ [])) rs m
+pub stands-one : (ts : List Token) (rs m : List ℕ) (id b : ℕ) → 1 ≤ id → Stands ts rs m → Stands
+    (ts ++ (record { id = id; bytes = b ∷ [] } ∷ [])) rs m
 stands-one ts rs m id b idl S = record {
   growing = subst (λ (ps : List (List ℕ)). Growing ps (idOf ts') rs m) (sym (nodes-one ts id b)) record {
     tree = record {

@@ -1,7 +1,7 @@
 -- What insertion does to any roots and nodes, whatever they hold: the code's steps, one definition each. A link to a node that is not made
 -- ends a walk, and no walk is longer than the number of nodes made. What it means where the memory stands for tokens is in Stands and Grow.
 -- Assumes nothing.
-use mathlib.Core.Bool.{Bool, true, false, cond}
+use mathlib.Core.Bool.{cond}
 use mathlib.Core.List.{List, [], _∷_}
 use Prim.Native.Nat.{ℕ, zero, suc, _+_, _*_, _%_, _^_}
 use lib.Dec.{eqb, leb}

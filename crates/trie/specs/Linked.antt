@@ -3,14 +3,14 @@ use mathlib.Core.Path.{_≡_, refl, sym, ap, _∙_, subst}
 use mathlib.Core.Logic.{_⊎_, inl, inr}
 use mathlib.Core.Bool.{Bool, true, false}
 use mathlib.Core.List.{List}
-use Prim.Native.Nat.{ℕ, _+_, _≤_, _<_, _^_}
+use Prim.Native.Nat.{ℕ, _+_, _<_}
 use native.Mathlib.Nat.{mod-lt}
 use native.Mathlib.Omega.{arith}
 use lib.Dec.{eqb, lit<}
 use lib.ListN.{length}
 use borrow.Author.Tests.{eqb-true, eqb-false}
 use Rattle.trie.specs.Run.{room, see, setNode, Fits, see-fits, length-setNode, see-same, see-other}
-use Rattle.trie.specs.Insertion.{leaf, grown, withNext, linkLast, addChild}
+use Rattle.trie.specs.Insertion.{leaf, grown, withNext, addChild}
 use Rattle.trie.specs.Turns.{last-none, last-next}
 use Rattle.trie.specs.declared.Node.{Node}
 

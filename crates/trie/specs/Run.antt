@@ -1,8 +1,8 @@
 -- A run of numbers as node records, six to a node. Everything else speaks of nodes through `see` and `setNode` alone, and of how many there
 -- may be through `room`: only this file, `fetch` and `store` know the layout. Assumes nothing.
-use mathlib.Core.Path.{_≡_, refl, sym, ap, _∙_}
+use mathlib.Core.Path.{_≡_, ap, _∙_}
 use mathlib.Core.List.{List}
-use Prim.Native.Nat.{ℕ, _+_, _*_, _/_, _%_, _≤_, _<_}
+use Prim.Native.Nat.{ℕ, _+_, _*_, _/_, _%_, _<_}
 use native.Mathlib.Omega.{arith}
 use native.Mathlib.Nat.{mod-lt, mod-eq-of-lt}
 use lib.Dec.{lit<}
@@ -28,7 +28,8 @@ see m i = record {
 -- n as node i
 unfoldable pub setNode : List ℕ → ℕ → Node → List ℕ
 setNode m i n =
-    set (set (set (set (set (set m (i * 6) (n .head)) (i * 6 + 1) (n .tail)) (i * 6 + 2) (n .next)) (i * 6 + 3) (n .term)) (i * 6 + 4) (n .count)) (i * 6 + 5) (n .label)
+    set (set (set (set (set (set m (i * 6) (n .head)) (i * 6 + 1) (n .tail)) (i * 6 + 2) (n .next)) (i * 6 + 3) (n .term))
+    (i * 6 + 4) (n .count)) (i * 6 + 5) (n .label)
 
 -- the fields fit: so do those of every node of the code
 pub record Fits (n : Node) : Type 0 where
@@ -142,5 +143,6 @@ module _ (m : List ℕ) (i : ℕ) (n : Node) where
     pub see-same : Fits n → see (setNode m i n) i ≡ n
     unfolding see
     see-same f =
-        node-ext is0 is1 is2 (ap (λ (x : ℕ). x % 65536) is3 ∙ mod-eq-of-lt (f .term)) (ap (λ (x : ℕ). x % 65536) is4 ∙ mod-eq-of-lt (f .count))
+        node-ext is0 is1 is2 (ap (λ (x : ℕ). x % 65536) is3 ∙ mod-eq-of-lt (f .term))
+        (ap (λ (x : ℕ). x % 65536) is4 ∙ mod-eq-of-lt (f .count))
         (ap (λ (x : ℕ). x % 256) is5 ∙ mod-eq-of-lt (f .label))

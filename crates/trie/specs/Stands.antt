@@ -2,9 +2,10 @@
 --
 -- Document 01, "Trie and packing": "Node 1 onward are numbered as made; children keep the order of first insertion." The nodes are the byte
 -- strings of `nodes ts`, each by its number. `Tree` says what the fields head, next, term, count and label of each node are; `Growing` says
--- what tail and the roots are while tokens are taken in. Threading and packing change tail and the roots, and keep the tree. Assumes nothing.
+-- what tail and the roots are while tokens are taken in. Threading and packing change tail and the roots, and keep the tree.
+-- Assumes nothing.
 use mathlib.Core.Path.{_≡_}
-use mathlib.Core.Bool.{Bool, true, false, cond}
+use mathlib.Core.Bool.{cond}
 use mathlib.Core.List.{List, [], _∷_, _++_, List·Memᴰ as Mem}
 use Prim.Native.Nat.{ℕ, _+_, _*_, _≤_, _<_}
 use lib.Dec.{leb}

@@ -9,9 +9,9 @@ use lib.ListN.{length, getD, drop, set, drop-of-length-le}
 use lib.Seq.{drop-cons}
 use borrow.Author.Tests.{eq-eqb, ne-eqb, le-leb, lt-leb, leb-false}
 use Rattle.trie.specs.Run.{see, setNode, length-setNode}
-use Rattle.trie.specs.Insertion.{leaf, grown, withNext, withTerm, find, childOf, linkLast, addChild, State, state, childMade, descendOn, Rooted, rooted, rootMade, Ended, ended, finishOn, After, after, insertOn}
+use Rattle.trie.specs.Insertion.{leaf, grown, withNext, withTerm, find, childOf, linkLast, addChild, State, state, childMade}
+use Rattle.trie.specs.Insertion.{descendOn, Rooted, rooted, rootMade, Ended, ended, finishOn, after, insertOn}
 use Rattle.trie.specs.declared.Node.{Node}
-use Rattle.trie.specs.declared.Inserted.{Inserted}
 use Rattle.trie.specs.declared.Inserted.the-variants.{Duplicate, NoRoom, Made}
 
 -- ---- a choice
@@ -135,7 +135,8 @@ pub record Sound (cap n : ℕ) (s : State) : Type 0 where
   pub made-le : s .made ≤ cap
   pub len : length (s .mem) ≡ n
 
-pub made-sound : (cap : ℕ) (m : List ℕ) (made parent b : ℕ) → parent < made → made ≤ cap → Sound cap (length m) (childMade cap m made parent b)
+pub made-sound : (cap : ℕ) (m : List ℕ) (made parent b : ℕ) → parent < made → made ≤ cap
+    → Sound cap (length m) (childMade cap m made parent b)
 unfolding childMade
 made-sound cap m made parent b h k = go (eqb r 0) (leb cap made) refl (lower (omega arith))
   where
@@ -149,7 +150,8 @@ made-sound cap m made parent b h k = go (eqb r 0) (leb cap made) refl (lower (om
         → Sound cap (length m) (cond d (cond e (state m 0 made) (state (addChild m made parent b) made (made + 1))) (state m r made))
     go false e q l = record { node-lt = l; made-le = k; len = refl }
     go true true q l = record { node-lt = omega arith; made-le = k; len = refl }
-    go true false q l = let z = leb-false cap made q in record { node-lt = omega arith; made-le = omega arith; len = length-addChild m made parent b }
+    go true false q l =
+        let z = leb-false cap made q in record { node-lt = omega arith; made-le = omega arith; len = length-addChild m made parent b }
 
 -- ---- descendOn
 
@@ -214,7 +216,8 @@ module _ (cap : ℕ) (rs m : List ℕ) (made at b : ℕ) where
           (cond e (rooted rs (state m 0 made)) (rooted (set rs at made) (state (setNode m made (leaf b)) made (made + 1))))
           (cond f (rooted rs (state m 0 made)) (rooted rs (state m (getD rs at 0) made)))) .st)
       go true true x f y = record { node-lt = p; made-le = q; len = refl }
-      go true false x f y = let z = leb-false cap made x in record { node-lt = omega arith; made-le = omega arith; len = length-setNode m made (leaf b) }
+      go true false x f y =
+          let z = leb-false cap made x in record { node-lt = omega arith; made-le = omega arith; len = length-setNode m made (leaf b) }
       go false e x true y = record { node-lt = p; made-le = q; len = refl }
       go false e x false y = record { node-lt = leb-false made (getD rs at 0) y; made-le = q; len = refl }
 
@@ -249,10 +252,13 @@ pub desc-whole : (cap n : ℕ) (s : State) (l : List ℕ) {u : State} → u ≡ 
 desc-whole cap n s l e h = subst (Sound cap n) (sym e) (desc-sound cap n s l h)
 
 pub insert-is : (cap : ℕ) (rs m : List ℕ) (made : ℕ) (bs : List ℕ) (id at : ℕ) (w : Rooted) (s : State) (d : Ended)
-    → at ≡ getD bs 0 0 * 256 + getD bs 1 0 → w ≡ rootMade cap rs m made at (getD bs 1 0) → s ≡ descendOn cap (w .st) (drop 2 bs) → d ≡ finishOn s id
+    → at ≡ getD bs 0 0 * 256 + getD bs 1 0 → w ≡ rootMade cap rs m made at (getD bs 1 0) → s ≡ descendOn cap (w .st) (drop 2 bs)
+    → d ≡ finishOn s id
     → after (w .roots) (d .mem) (d .answer) ≡ insertOn cap rs m made bs id
 unfolding insertOn
 insert-is cap rs m made bs id at w s d ea ew es ed =
-    let e : w ≡ rootMade cap rs m made (getD bs 0 0 * 256 + getD bs 1 0) (getD bs 1 0) = ew ∙ ap (λ (x : ℕ). rootMade cap rs m made x (getD bs 1 0)) ea in
+    let e : w ≡ rootMade cap rs m made (getD bs 0 0 * 256 + getD bs 1 0) (getD bs 1 0) =
+    ew ∙ ap (λ (x : ℕ). rootMade cap rs m made x (getD bs 1 0)) ea in
     ap (λ (x : Ended). after (w .roots) (x .mem) (x .answer)) (ed ∙ ap (λ (x : State). finishOn x id) es)
-    ∙ ap (λ (x : Rooted). after (x .roots) (finishOn (descendOn cap (x .st) (drop 2 bs)) id .mem) (finishOn (descendOn cap (x .st) (drop 2 bs)) id .answer)) e
+    ∙ ap (λ (x : Rooted). after (x .roots) (finishOn (descendOn cap (x .st) (drop 2 bs)) id .mem)
+    (finishOn (descendOn cap (x .st) (drop 2 bs)) id .answer)) e
