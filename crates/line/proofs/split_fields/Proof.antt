@@ -51,7 +51,7 @@ returns-4 c =
     let no = sym (first .before .before .before .before .is-blank .ensures) ∙ first .before .before .before .if1 .left in
     let f = sym (first .before .before .first-space .ensures) ∙ ap spaceOf (first .first .given .1) in
     let l = sym (second .before .before .last-space .ensures) ∙ ap spaceOf (second .last .given .1) in
-    (sym (leads _ no _ f _ l (c .if2 .taken)), tt)
+    (sym (leads _ no _ f _ l (omega arith)), tt)
 
 add-if3 : tie.Need-add-if3
 add-if3 c =
@@ -67,7 +67,7 @@ returns-5 c =
     let no = sym (first .before .before .before .before .is-blank .ensures) ∙ first .before .before .before .if1 .left in
     let f = sym (first .before .before .first-space .ensures) ∙ ap spaceOf (first .first .given .1) in
     let l = sym (second .before .before .last-space .ensures) ∙ ap spaceOf (second .last .given .1) in
-    (sym (near _ no _ f _ l (c .if3 .taken)), tt)
+    (sym (near _ no _ f _ l (omega arith)), tt)
 
 add-if4 : tie.Need-add-if4
 add-if4 c =
@@ -83,7 +83,7 @@ returns-6 c =
     let no = sym (first .before .before .before .before .is-blank .ensures) ∙ first .before .before .before .if1 .left in
     let f = sym (first .before .before .first-space .ensures) ∙ ap spaceOf (first .first .given .1) in
     let l = sym (second .before .before .last-space .ensures) ∙ ap spaceOf (second .last .given .1) in
-    (sym (ends _ no _ f _ l (c .if4 .taken)), tt)
+    (sym (ends _ no _ f _ l (omega arith)), tt)
 
 returns-7 : tie.Need-returns-7
 returns-7 c =

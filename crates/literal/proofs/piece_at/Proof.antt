@@ -38,13 +38,13 @@ returns-3 : tie.Need-returns-3
 returns-3 c =
     let if1 = c .before .before .before .if1 in
     let if2 = c .before .before .if2 in
-    sym (piece-not-ascii _ _ _ _ (if1 .left) (if2 .left) (c .before .if3 .taken) (c .if4 .taken))
+    sym (piece-not-ascii _ _ _ _ (if1 .left) (if2 .left) (c .before .if3 .taken) (omega arith))
 
 returns-4 : tie.Need-returns-4
 returns-4 c =
     let if1 = c .before .before .before .if1 in
     let if2 = c .before .before .if2 in
-    sym (piece-ascii _ _ _ _ (if1 .left) (if2 .left) (c .before .if3 .taken) (c .if4 .left))
+    sym (piece-ascii _ _ _ _ (if1 .left) (if2 .left) (c .before .if3 .taken) (omega arith))
 
 returns-5 : tie.Need-returns-5
 returns-5 c = sym (piece-any _ _ _ _ (c .before .before .if1 .left) (c .before .if2 .left) (c .if3 .left))
