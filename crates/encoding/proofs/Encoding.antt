@@ -17,7 +17,7 @@ use Rattle.spec.specs.Encode.{EncodeEnd, complete, unmatched, full, Encoding, e
 use Rattle.encoding.specs.declared.Encoded.{Encoded}
 use Rattle.encoding.specs.declared.Encoded.the-variants.{ShortMemory}
 use Rattle.encoding.specs.Answers.{answerOf, Answered}
-use Rattle.encoding.proofs.Bounds.{match-within}
+use Rattle.encoding.specs.Bounds.{match-within}
 
 -- an end with no further id
 abbrev pub endedWith : EncodeEnd → Encoding

@@ -1,5 +1,4 @@
 -- What the proofs of several functions use, on lists.
 pub mod Walking
-pub mod Bounds
 pub mod Row
 pub mod Encoding

@@ -16,6 +16,7 @@ use borrow.Author.Tests.{eq-eqb, ne-eqb, leb-true, leb-false}
 use Rattle.spec.specs.Memory.{Memory}
 use Rattle.spec.specs.Match.{goes, idIn, baseIn, Walk, noWalk, onto, follow, enter, walkOn, found, one, matchOn}
 use Rattle.encoding.specs.Answers.{child}
+use Rattle.encoding.specs.Bounds.{onto-used}
 
 -- a number is 0 or not
 abbrev pub Zero : ℕ → Type 0
@@ -104,13 +105,6 @@ module _ (k : Walk) (w n : ℕ) where
   pub onto-some : (idIn w ≡ 0 → ⊥) → onto k w n ≡ record { id = idIn w; len = n; used = n; base = baseIn w }
   unfolding onto
   onto-some e = rw (ne-eqb (idIn w) 0 e, onto)
-
-  pub onto-used : onto k w n .used ≡ n
-  onto-used = go (zero? (idIn w))
-    where
-      go : Zero (idIn w) → onto k w n .used ≡ n
-      go (inl e) = ap (λ (x : Walk). x .used) (onto-none e)
-      go (inr e) = ap (λ (x : Walk). x .used) (onto-some e)
 
 pub used-is : (k k₀ : Walk) (w n : ℕ) → k ≡ onto k₀ w n → k .used ≡ n
 used-is k k₀ w n e = ap (λ (x : Walk). x .used) e ∙ onto-used k₀ w n

@@ -1,3 +1,3 @@
--- What the contracts of the running encoder cite, and the laws of its definitions that the proofs use.
+-- What the contracts of the running encoder cite beside the definitions of `spec`.
 pub mod Answers
 pub mod Running

@@ -1,0 +1,9 @@
+-- Laws of the definitions that the proofs of the running encoder cite.
+pub mod Refusing
+pub mod Deciding
+pub mod Steps
+pub mod Holding
+pub mod Windows
+pub mod Adding
+pub mod Calling
+pub mod Ending
