@@ -1,12 +1,6 @@
--- What placing by words of marks does, and that it is the placing of the definitions, in the order in which to read it.
-pub mod Words
-pub mod Bitwise
-pub mod Find
-pub mod Steps
-pub mod Place
+-- The definitions that the contracts cite, in the order in which to read them.
+pub mod Search
 pub mod Going
-pub mod Table
-pub mod Turns
-pub mod Filled
+pub mod Nodes
 pub mod Walk
-pub mod Packs
+pub mod Answer

@@ -1,24 +1,17 @@
+-- `packing::pack` meets its contract. Assumes nothing.
 use mathlib.Core.Path.{_≡_, refl, sym, _∙_}
 use native.Mathlib.Omega.{arith}
 use Prim.Native.Nat.{_+_, _*_, _≤_, _<_}
 use lib.ListN.{length}
-use Rattle.packing.specs.Walk.{ended-full, ended-open}
-use Rattle.packing.specs.Packs.{end-zero, end-bounds, end-past, end-room, past-answer, words-pos, fits-answer, capacity-le}
+use Rattle.packing.proofs.Walked.{ended-full, ended-open}
+use Rattle.packing.proofs.Answered.{end-zero, end-bounds, end-past, end-room, past-answer, words-pos, fits-answer, capacity-le}
 use borrow.Author.Needs.{needs}
 use Rattle.packing.proofs.pack.Statement.{statement}
 use Rattle.packing.proofs.pack.Tie as tie
-use Rattle.packing.proofs.pack.Reads as reads
-use Rattle.packing.proofs.pack.Lts as lts
-use Rattle.packing.proofs.narrow.Reads as narrow-reads
-use Rattle.packing.proofs.place_all.Reads as place-all-reads
-use Rattle.packing.proofs.put_all.Reads as put-all-reads
-use Rattle.packing.proofs.words_of_marks.Reads as words-of-marks-reads
 
--- src/lib.rt:525:9
 words-of-marks-requires : tie.Need-words-of-marks-requires
 words-of-marks-requires c κs = search needs
 
--- src/lib.rt:527:9
 returns : tie.Need-returns
 returns c =
     λ ts v S em.
@@ -26,67 +19,52 @@ returns c =
       let w = words-pos ts in
       past-answer ts _ _ _ _ _ (omega arith)
 
--- src/lib.rt:529:9
 place-all-requires : tie.Need-place-all-requires
 place-all-requires c κs =
     let p = c .before .before .before .before .before .before .before .before .before .before .pre in
     (p .0, p .1, end-bounds _ _ _ _ (c .before .before .before .before .words-of-marks .ensures) _ _ refl refl (c .before .before .before .if1 .left))
 
--- src/lib.rt:531:9
 same-length : tie.Need-same-length
 same-length c = search needs
 
--- src/lib.rt:531:9
 same-length-2 : tie.Need-same-length-2
 same-length-2 c = search needs
 
--- src/lib.rt:531:9
 same-length-3 : tie.Need-same-length-3
 same-length-3 c = search needs
 
--- src/lib.rt:531:9
 returns-2 : tie.Need-returns-2
 returns-2 c =
     λ ts v S em.
       past-answer ts _ _ _ _ _ (end-past _ _ _ _ (c .before .before .before .before .before .before .before .before .before .before .before .before .words-of-marks .ensures) ts v (ended-full (c .before .before .before .before .before .before .before .place-all .ensures .0 ts _ v S em) (c .if2 .taken)))
 
--- src/lib.rt:533:5
 put-all-requires : tie.Need-put-all-requires
 put-all-requires c κs = search needs
 
--- src/lib.rt:534:33
 add-narrow : tie.Need-add-narrow
 add-narrow c = search needs
 
--- src/lib.rt:534:26
 mul-narrow : tie.Need-mul-narrow
 mul-narrow c = search needs
 
--- src/lib.rt:534:19
 narrow-requires : tie.Need-narrow-requires
 narrow-requires c κs = search needs
 
--- src/lib.rt:512:1
 same-length-4 : tie.Need-same-length-4
 same-length-4 c = search needs
 
--- src/lib.rt:512:1
 same-length-5 : tie.Need-same-length-5
 same-length-5 c = search needs
 
--- src/lib.rt:512:1
 same-length-6 : tie.Need-same-length-6
 same-length-6 c = search needs
 
--- src/lib.rt:512:1
 same-length-7 : tie.Need-same-length-7
 same-length-7 c = search needs
 
--- src/lib.rt:512:1
 same-length-8 : tie.Need-same-length-8
 same-length-8 c = search needs
 
--- src/lib.rt:512:1
 returns-3 : tie.Need-returns-3
 returns-3 c =
     let p = c .before .before .before .before .before .before .before .before .before .before .before .before .before .before .before .before .before .before .before .before .before .before .before .before .before .before .before .before .pre in

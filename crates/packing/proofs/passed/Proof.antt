@@ -1,40 +1,31 @@
+-- `packing::passed` meets its contract. Assumes nothing.
 use mathlib.Core.Path.{_≡_, sym, ap, ap₂, _∙_}
 use mathlib.Core.Bool.{false}
 use Prim.Native.Nat.{ℕ}
-use Rattle.packing.specs.Table.{passedOn}
+use Rattle.packing.specs.Nodes.{passedOn}
 use Rattle.packing.specs.declared.Placed.{Placed}
 use Rattle.packing.specs.declared.Front.{Front}
 use borrow.Author.Needs.{needs}
 use Rattle.packing.proofs.passed.Statement.{statement}
 use Rattle.packing.proofs.passed.Tie as tie
-use Rattle.packing.proofs.passed.Reads as reads
-use Rattle.packing.proofs.passed.Lts as lts
-use Rattle.packing.proofs.larger.Reads as larger-reads
-use Rattle.packing.proofs.open_from.Reads as open-from-reads
 
--- src/lib.rt:246:20
 enum-known-p : tie.Need-enum-known-p
 enum-known-p c = search needs
 
--- src/lib.rt:247:9
 enum-told : tie.Need-enum-told
 enum-told c = search needs
 
--- src/lib.rt:247:9
 returns : tie.Need-returns
 returns c =
     let a = c .before .before .before .args in
     sym (ap (passedOn (a .used .now) (a .at) (a .end)) (c .enum-told .given .1))
 
--- src/lib.rt:254:15
 open-from-requires : tie.Need-open-from-requires
 open-from-requires c κs = search needs
 
--- src/lib.rt:255:15
 larger-requires : tie.Need-larger-requires
 larger-requires c κs = search needs
 
--- src/lib.rt:242:1
 returns-2 : tie.Need-returns-2
 returns-2 c =
     let a = c .before .before .before .before .before .before .args in

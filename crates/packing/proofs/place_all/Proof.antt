@@ -1,3 +1,4 @@
+-- `packing::place_all` meets its contract. Assumes nothing.
 use mathlib.Core.Path.{_≡_, refl, _∙_}
 use Prim.Native.Nat.{ℕ, suc, _+_}
 use native.Mathlib.Omega.{arith}
@@ -5,49 +6,35 @@ use lib.ListN.{length}
 use Rattle.spec.specs.Token.{idOf}
 use Rattle.spec.specs.Trie.{nodes, nodeCount}
 use Rattle.spec.specs.Layout.{puts}
-use Rattle.packing.specs.Walk.{begin}
+use Rattle.packing.proofs.Walked.{begin}
 use borrow.Author.Needs.{needs}
 use Rattle.packing.proofs.place_all.Statement.{statement}
 use Rattle.packing.proofs.place_all.Tie as tie
-use Rattle.packing.proofs.place_all.Reads as reads
-use Rattle.packing.proofs.place_all.Lts as lts
-use Rattle.packing.proofs.clear.Reads as clear-reads
-use Rattle.packing.proofs.place_chain.Reads as place-chain-reads
-use Rattle.trie.proofs.thread_all.Reads as thread-all-reads
 
--- src/lib.rt:479:5
 clear-requires : tie.Need-clear-requires
 clear-requires c κs = search needs
 
--- src/lib.rt:480:5
 clear-requires-2 : tie.Need-clear-requires-2
 clear-requires-2 c κs = search needs
 
--- src/lib.rt:481:9
 thread-all-requires : tie.Need-thread-all-requires
 thread-all-requires c κs = search needs
 
--- src/lib.rt:488:50
 slice-aggregate-place-chain : tie.Need-slice-aggregate-place-chain
 slice-aggregate-place-chain c = search needs
 
--- src/lib.rt:488:5
 place-chain-requires : tie.Need-place-chain-requires
 place-chain-requires c κs = search needs
 
--- src/lib.rt:473:1
 same-length : tie.Need-same-length
 same-length c = search needs
 
--- src/lib.rt:473:1
 same-length-2 : tie.Need-same-length-2
 same-length-2 c = search needs
 
--- src/lib.rt:473:1
 same-length-3 : tie.Need-same-length-3
 same-length-3 c = search needs
 
--- src/lib.rt:473:1
 returns : tie.Need-returns
 unfolding nodeCount
 returns c =

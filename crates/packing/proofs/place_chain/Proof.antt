@@ -1,3 +1,4 @@
+-- `packing::place_chain` meets its contract. The loop: amid the walk from the first node we are still amid it. Assumes nothing.
 use mathlib.Core.Path.{_≡_, refl, sym, ap, _∙_, subst}
 use mathlib.Core.List.{List}
 use Prim.Native.Nat.{ℕ, suc, _-_, _≤_}
@@ -5,14 +6,11 @@ use native.Mathlib.Omega.{arith}
 use lib.ListN.{length}
 use Rattle.spec.specs.Layout.{Put}
 use Rattle.trie.specs.declared.Node.{Node}
-use Rattle.packing.specs.Walk.{Amid, Within, at-zero, no-fuel, past-made, full-ends, open-goes}
+use Rattle.packing.specs.Walk.{Amid, Within}
+use Rattle.packing.proofs.Walked.{at-zero, no-fuel, past-made, full-ends, open-goes}
 use borrow.Author.Needs.{needs}
 use Rattle.packing.proofs.place_chain.Statement.{statement}
 use Rattle.packing.proofs.place_chain.Tie as tie
-use Rattle.packing.proofs.place_chain.Reads as reads
-use Rattle.packing.proofs.place_chain.Lts as lts
-use Rattle.packing.proofs.place_node.Reads as place-node-reads
-use Rattle.trie.proofs.fetch.Reads as fetch-reads
 
 abbrev Inv-loop : tie.InvT-loop
 Inv-loop nodes₀ made first used₀ bases₀ cursors₀ end node₀ front₀ fuel₀ nodes used bases cursors node front fuel =
@@ -23,57 +21,44 @@ Inv-loop nodes₀ made first used₀ bases₀ cursors₀ end node₀ front₀ fu
 abbrev μ-loop : tie.MeasureT-loop
 μ-loop nodes₀ made first used₀ bases₀ cursors₀ end node₀ front₀ fuel₀ nodes used bases cursors node front fuel = fuel
 
--- src/lib.rt:341:5
 loop-holds : tie.Need-loop-holds Inv-loop μ-loop
 loop-holds c = let p = c .before .before .before .before .pre in (refl, refl, refl, refl, record { from-le = p .1 .from-le; high-le = p .3 }, λ ps I goal em A. A)
 
--- src/lib.rt:343:13
 same-length : tie.Need-same-length Inv-loop μ-loop
 same-length c = c .before .before .loop .inv .0
 
--- src/lib.rt:343:13
 same-length-2 : tie.Need-same-length-2 Inv-loop μ-loop
 same-length-2 c = c .before .before .loop .inv .1
 
--- src/lib.rt:343:13
 same-length-3 : tie.Need-same-length-3 Inv-loop μ-loop
 same-length-3 c = c .before .before .loop .inv .2
 
--- src/lib.rt:343:13
 same-length-4 : tie.Need-same-length-4 Inv-loop μ-loop
 same-length-4 c = c .before .before .loop .inv .3
 
--- src/lib.rt:343:13
 returns : tie.Need-returns Inv-loop μ-loop
 returns c = let v = c .before .before .loop .inv in ((λ ps I goal em A. at-zero ps I goal _ _ _ _ _ _ _ _ (v .5 ps I goal em A) (c .if1 .taken)), v .4)
 
--- src/lib.rt:346:13
 same-length-5 : tie.Need-same-length-5 Inv-loop μ-loop
 same-length-5 c = c .before .before .before .loop .inv .0
 
--- src/lib.rt:346:13
 same-length-6 : tie.Need-same-length-6 Inv-loop μ-loop
 same-length-6 c = c .before .before .before .loop .inv .1
 
--- src/lib.rt:346:13
 same-length-7 : tie.Need-same-length-7 Inv-loop μ-loop
 same-length-7 c = c .before .before .before .loop .inv .2
 
--- src/lib.rt:346:13
 same-length-8 : tie.Need-same-length-8 Inv-loop μ-loop
 same-length-8 c = c .before .before .before .loop .inv .3
 
--- src/lib.rt:346:13
 returns-2 : tie.Need-returns-2 Inv-loop μ-loop
 returns-2 c =
     let v = c .before .before .before .loop .inv in
     ((λ ps I goal em A. past-made ps I goal _ _ _ _ _ _ _ _ (v .5 ps I goal em A) (subst (λ (n : ℕ). n ≤ c .before .before .before .loop .node) em (c .if2 .taken))), v .4)
 
--- src/lib.rt:348:20
 fetch-requires : tie.Need-fetch-requires Inv-loop μ-loop
 fetch-requires c κs = let v = c .before .before .before .before .loop .inv .0 in omega arith
 
--- src/lib.rt:349:9
 place-node-requires : tie.Need-place-node-requires Inv-loop μ-loop
 place-node-requires c κs =
     let p = c .before .before .before .before .before .before .before .before .before .before .before .before .before .before .pre in
@@ -88,38 +73,30 @@ place-node-requires c κs =
      record { from-le = w .from-le; blocks = q .blocks; some = q .some; in-used = (let h = q .in-used in omega arith); in-bases = (let h = q .in-bases in omega arith); small = q .small },
      omega arith, w .high-le)
 
--- src/lib.rt:351:13
 same-length-9 : tie.Need-same-length-9 Inv-loop μ-loop
 same-length-9 c = c .before .before .before .before .before .before .before .before .before .place-node .kept .0 ∙ c .before .before .before .before .before .before .before .before .before .before .before .before .before .before .before .before .before .before .before .loop .inv .0
 
--- src/lib.rt:351:13
 same-length-10 : tie.Need-same-length-10 Inv-loop μ-loop
 same-length-10 c = c .before .before .before .before .before .before .before .before .before .place-node .kept .1 .1 .1 .0 ∙ c .before .before .before .before .before .before .before .before .before .before .before .before .before .before .before .before .before .before .before .loop .inv .1
 
--- src/lib.rt:351:13
 same-length-11 : tie.Need-same-length-11 Inv-loop μ-loop
 same-length-11 c = c .before .before .before .before .before .before .before .before .before .place-node .kept .1 .1 .1 .1 .0 ∙ c .before .before .before .before .before .before .before .before .before .before .before .before .before .before .before .before .before .before .before .loop .inv .2
 
--- src/lib.rt:351:13
 same-length-12 : tie.Need-same-length-12 Inv-loop μ-loop
 same-length-12 c = c .before .before .before .before .before .before .before .before .before .place-node .kept .1 .1 .1 .1 .1 .0 ∙ c .before .before .before .before .before .before .before .before .before .before .before .before .before .before .before .before .before .before .before .loop .inv .3
 
--- src/lib.rt:351:13
 returns-3 : tie.Need-returns-3 Inv-loop μ-loop
 returns-3 c =
     let v = c .before .before .before .before .before .before .before .before .before .before .before .before .before .before .before .before .before .before .before .loop .inv in
     ((λ ps I goal em A. full-ends (c .before .before .before .before .before .before .before .before .before .place-node .ensures .0 ps I goal (c .before .before .before .before .before .before .before .before .before .before .before .before .before .before .before .before .before .before .before .loop .fuel) em (c .before .before .before .before .before .before .before .before .before .before .before .before .before .before .before .before .before .if1 .left) (v .5 ps I goal em A)) (c .if3 .taken)),
      c .before .before .before .before .before .before .before .before .before .place-node .ensures .1)
 
--- src/lib.rt:354:9
 sub-fuel : tie.Need-sub-fuel Inv-loop μ-loop
 sub-fuel c = omega arith
 
--- src/lib.rt:341:5
 loop-less : tie.Need-loop-less Inv-loop μ-loop
 loop-less c = omega arith
 
--- src/lib.rt:341:5
 loop-again : tie.Need-loop-again Inv-loop μ-loop
 loop-again c =
     let v = c .before .before .before .before .before .before .before .before .before .before .before .before .before .before .before .before .before .before .before .loop .inv in
@@ -129,23 +106,18 @@ loop-again c =
        open-goes (c .before .before .before .before .before .before .before .before .before .place-node .ensures .0 ps I goal (c .before .before .before .before .before .before .before .before .before .before .before .before .before .before .before .before .before .before .before .loop .fuel) em (c .before .before .before .before .before .before .before .before .before .before .before .before .before .before .before .before .before .if1 .left) (v .5 ps I goal em A)) (c .if3 .left)
        (ap (λ (n : Node). n .tail) (sym (c .before .before .before .before .before .before .before .before .before .before .before .before .before .before .fetch .ensures))))
 
--- src/lib.rt:323:1
 same-length-13 : tie.Need-same-length-13 Inv-loop μ-loop
 same-length-13 c = c .before .loop .inv .0
 
--- src/lib.rt:323:1
 same-length-14 : tie.Need-same-length-14 Inv-loop μ-loop
 same-length-14 c = c .before .loop .inv .1
 
--- src/lib.rt:323:1
 same-length-15 : tie.Need-same-length-15 Inv-loop μ-loop
 same-length-15 c = c .before .loop .inv .2
 
--- src/lib.rt:323:1
 same-length-16 : tie.Need-same-length-16 Inv-loop μ-loop
 same-length-16 c = c .before .loop .inv .3
 
--- src/lib.rt:323:1
 returns-4 : tie.Need-returns-4 Inv-loop μ-loop
 returns-4 c = let v = c .before .loop .inv in ((λ ps I goal em A. no-fuel ps I goal _ _ _ _ _ _ _ _ (v .5 ps I goal em A) (c .loop-test .left)), v .4)
 

@@ -1,3 +1,4 @@
+-- `packing::place_gathered` meets its contract. Assumes nothing.
 use mathlib.Core.Path.{_≡_, sym, ap, _∙_, subst}
 use Prim.Native.Nat.{ℕ, _≤_}
 use native.Mathlib.Omega.{arith}
@@ -8,10 +9,6 @@ use Rattle.trie.specs.Gather.{gathered-take}
 use borrow.Author.Needs.{needs}
 use Rattle.packing.proofs.place_gathered.Statement.{statement}
 use Rattle.packing.proofs.place_gathered.Tie as tie
-use Rattle.packing.proofs.place_gathered.Reads as reads
-use Rattle.packing.proofs.place_gathered.Lts as lts
-use Rattle.packing.proofs.place_labels.Reads as place-labels-reads
-use Rattle.trie.proofs.gather.Reads as gather-reads
 
 few : (c : tie.After-gather) → c .gather .result ≤ length (c .gather .last .1 .1 .1 .0)
 few c =
@@ -19,15 +16,12 @@ few c =
     let h = c .gather .ensures .1 .few in
     omega arith
 
--- src/lib.rt:294:45
 slice-aggregate-gather : tie.Need-slice-aggregate-gather
 slice-aggregate-gather c = search needs
 
--- src/lib.rt:294:9
 gather-requires : tie.Need-gather-requires
 gather-requires c κs = search needs
 
--- src/lib.rt:296:9
 returns : tie.Need-returns
 returns c =
     let p = c .before .before .before .before .before .before .before .before .pre .2 .some in
@@ -37,34 +31,27 @@ returns c =
         absurd (omega arith)),
      omega arith)
 
--- src/lib.rt:298:51
 array-share-prefix-room : tie.Need-array-share-prefix-room
 array-share-prefix-room c = search needs
 
--- src/lib.rt:298:51
 slice-aggregate-place-labels : tie.Need-slice-aggregate-place-labels
 slice-aggregate-place-labels c = sym (length-take-le _ _ (few (c .before .before .before .before .before .before)))
 
--- src/lib.rt:298:5
 place-labels-requires : tie.Need-place-labels-requires
 place-labels-requires c κs =
     let p = c .before .before .before .before .before .before .before .before .before .before .before .before .pre in
     let z = c .before .before .before .before .if1 .left in
     (p .2, p .3, subst (λ (n : ℕ). 1 ≤ n) (sym (length-take-le _ _ (few (c .before .before .before .before .before .before)))) (omega (arith, z)))
 
--- src/lib.rt:276:1
 same-length : tie.Need-same-length
 same-length c = search needs
 
--- src/lib.rt:276:1
 same-length-2 : tie.Need-same-length-2
 same-length-2 c = search needs
 
--- src/lib.rt:276:1
 same-length-3 : tie.Need-same-length-3
 same-length-3 c = search needs
 
--- src/lib.rt:276:1
 returns-2 : tie.Need-returns-2
 returns-2 c =
     ((λ ps I xs q high T em mq en some G. c .before .before .before .before .before .before .place-labels .ensures .0 (labels ps) xs q high (gathered-take (c .before .before .before .before .before .before .before .before .before .before .before .before .before .gather .ensures .0 ps I q T em mq en)) G),

@@ -1,49 +1,38 @@
+-- `packing::place_node` meets its contract. Assumes nothing.
 use native.Mathlib.Omega.{arith}
 use Prim.Native.Nat.{_*_}
 use mathlib.Core.Path.{sym, subst}
-use Rattle.packing.specs.Words.{below-le}
-use Rattle.packing.specs.Walk.{Within, next, in-nodes, number-now, some-now, after, passed-within}
+use Rattle.packing.proofs.Steps.{below-le}
+use Rattle.packing.specs.Walk.{Within}
+use Rattle.packing.proofs.Walked.{next, in-nodes, number-now, some-now, after, passed-within}
 use borrow.Author.Needs.{needs}
 use Rattle.packing.proofs.place_node.Statement.{statement}
 use Rattle.packing.proofs.place_node.Tie as tie
-use Rattle.packing.proofs.place_node.Reads as reads
-use Rattle.packing.proofs.place_node.Lts as lts
-use Rattle.packing.proofs.keep.Reads as keep-reads
-use Rattle.packing.proofs.passed.Reads as passed-reads
-use Rattle.packing.proofs.place_gathered.Reads as place-gathered-reads
 
--- src/lib.rt:317:9
 place-gathered-requires : tie.Need-place-gathered-requires
 place-gathered-requires c κs = search needs
 
--- src/lib.rt:318:5
 keep-requires : tie.Need-keep-requires
 keep-requires c κs =
     let p = c .before .before .before .before .before .before .before .before .before .before .before .before .before .before .before .before .pre in
     let s = p .2 .small in
     (omega arith, below-le (c .before .before .before .before .before .before .before .place-gathered .result) (c .before .before .before .before .before .before .before .before .before .before .before .before .before .before .before .before .args .end * 64) _ (c .before .before .before .before .before .before .before .place-gathered .ensures .1) (omega arith))
 
--- src/lib.rt:319:5
 passed-requires : tie.Need-passed-requires
 passed-requires c κs = search needs
 
--- src/lib.rt:302:1
 same-length : tie.Need-same-length
 same-length c = search needs
 
--- src/lib.rt:302:1
 same-length-2 : tie.Need-same-length-2
 same-length-2 c = search needs
 
--- src/lib.rt:302:1
 same-length-3 : tie.Need-same-length-3
 same-length-3 c = search needs
 
--- src/lib.rt:302:1
 same-length-4 : tie.Need-same-length-4
 same-length-4 c = search needs
 
--- src/lib.rt:302:1
 returns : tie.Need-returns
 returns c =
     let p = c .before .before .before .before .before .before .before .before .before .before .before .before .before .before .before .before .before .before .before .before .before .pre in

@@ -1,0 +1,102 @@
+-- The capacity that is searched, and what the code's answers say of it. Assumes nothing.
+use mathlib.Core.Path.{_≡_, refl, sym, ap, ap₂, _∙_, subst}
+use mathlib.Core.Bool.{Bool, true, false, cond, false≢true}
+use mathlib.Core.List.{List, _++_, map}
+use Prim.Native.Nat.{ℕ, _+_, _-_, _*_, _/_, _%_, _^_, _≤_, _<_, min}
+use native.Mathlib.Omega.{arith}
+use lib.Dec.{leb}
+use lib.ListN.{length, take, drop, replicate}
+use borrow.Author.Tests.{le-leb, lt-leb}
+use Rattle.spec.specs.Lists.{fold, over}
+use Rattle.spec.specs.Token.{Token, idOf}
+use Rattle.spec.specs.Trie.{nodes, nodeCount}
+use Rattle.spec.specs.Layout.{top, words, puts, tableWords}
+use Rattle.spec.specs.Valid.{Valid}
+use Rattle.spec.specs.Memory.{padded, tableList, rootList}
+use Rattle.laws.specs.Bounds.{tableWords-small}
+use Rattle.laws.specs.Fill.{write}
+use Rattle.trie.specs.Run.{see}
+use Rattle.trie.specs.Stands.{Roots, Stands}
+use Rattle.packing.specs.Search.{Bounds}
+use Rattle.packing.proofs.Steps.{yes-case, no-case}
+use Rattle.packing.specs.Nodes.{blocks, nodeWrites, rootWord}
+use Rattle.packing.proofs.Filled.{Based, nodes-are, table-padded, roots-over}
+use Rattle.packing.specs.Walk.{Through}
+use Rattle.packing.specs.Answer.{capacity, answerFor, PackedAs}
+use Rattle.packing.proofs.Walked.{through-based}
+use Rattle.packing.specs.declared.Packed.{Packed}
+use Rattle.packing.specs.declared.Packed.the-variants.{Words, NoRoom}
+use Rattle.packing.specs.declared.Front.{Front}
+
+-- ---- the words of marks that are searched
+
+module _ (t u b end : ℕ) (is : end ≡ 4 * min (blocks t u b) 16777215) where
+  pub end-zero : end ≡ 0 → capacity t u b ≡ 0
+  unfolding capacity
+  end-zero z = omega arith
+
+  pub end-bounds : (U B : List ℕ) → length U ≡ u → length B ≡ b → (end ≡ 0 → ⊥) → Bounds U B 4 end
+  end-bounds U B eu eb z = record {
+    from-le = omega (arith, z);
+    blocks = omega arith;
+    some = omega (arith, z);
+    in-used = omega arith;
+    in-bases = omega arith;
+    small = omega arith;
+  }
+
+  -- more blocks than 2^24 - 1 are never needed
+  pub end-past : (ts : List Token) → Valid ts → end * 64 < words (puts ts) → capacity t u b < tableWords ts
+  unfolding capacity tableWords words
+  end-past ts v h = let s = small in omega arith
+    where
+      small : 256 * (1 + top (puts ts)) < 2 ^ 32
+      small = tableWords-small ts v
+
+  pub end-room : end * 64 ≤ capacity t u b
+  unfolding capacity
+  end-room = omega arith
+
+pub capacity-le : (t u b : ℕ) → capacity t u b ≤ t
+unfolding capacity
+capacity-le t u b = omega arith
+
+-- ---- the answer
+
+not-words : {r : Packed} {n : ℕ} → r ≡ NoRoom → r ≡ Words n → ⊥
+not-words p q = let z : _≡_ {A = ℕ} 0 1 = cc in omega arith
+
+pub past-answer : (ts : List Token) (cap : ℕ) (rs t rs' t' : List ℕ) → cap < tableWords ts → PackedAs ts cap rs t NoRoom rs' t'
+unfolding answerFor
+past-answer ts cap rs t rs' t' h = record {
+  answer = sym (no-case _ _ (lt-leb (tableWords ts) cap h));
+  table = λ n e. absurd (not-words refl e);
+  roots = λ n e. absurd (not-words refl e);
+}
+
+pub words-pos : (ts : List Token) → 0 < tableWords ts
+unfolding tableWords words
+words-pos ts = omega arith
+
+module _ (ts : List Token) (v : Valid ts) (cap made w : ℕ) (rs m₀ t m t' rs' : List ℕ) (at : Front) (end : ℕ) where
+  pub fits-answer : Stands ts rs m₀ → made ≡ nodeCount ts → 65536 ≤ length rs → cap ≤ length t → end * 64 ≤ cap
+      → Through (nodes ts) (idOf ts) (puts ts) m at end → w ≡ 256 * (1 + at .high)
+      → t' ≡ fold write (replicate (length t) 0) (nodeWrites (see m) made (made - 1) 1)
+      → rs' ≡ map (rootWord (see m) made) (take 65536 rs) ++ drop 65536 rs
+      → PackedAs ts cap rs t (Words w) rs' t'
+  unfolding answerFor tableWords words
+  fits-answer S em hr ht hc T ew et er = record {
+    answer = ap Words is ∙ sym (yes-case _ _ (le-leb (tableWords ts) cap fit));
+    table = λ n e. et ∙ ap (λ (k : ℕ). fold write (replicate (length t) 0) (nodeWrites (see m) k (k - 1) 1)) em
+        ∙ ap (fold write (replicate (length t) 0)) (nodes-are ts m D) ∙ table-padded ts v (length t) (omega (arith, fit));
+    roots = λ n e. er ∙ ap (λ (k : ℕ). map (rootWord (see m) k) (take 65536 rs) ++ drop 65536 rs) em ∙ roots-over ts m rs D (S .growing .root) hr;
+  }
+    where
+      D : Based ts m
+      D = through-based ts m at end T
+
+      is : w ≡ tableWords ts
+      is = let h = T .high-is in omega arith
+
+      fit : tableWords ts ≤ cap
+      fit = let h = T .room in omega arith

@@ -1,0 +1,123 @@
+-- What each branch of the code gives, as an equation of the definitions in Words. Assumes nothing.
+use mathlib.Core.Path.{_≡_, refl, sym, ap, ap₂, _∙_, subst}
+use mathlib.Core.Logic.{_⊎_, inl, inr}
+use mathlib.Core.Bool.{Bool, true, false, not, cond}
+use mathlib.Core.List.{List}
+use Prim.Native.Nat.{ℕ, _+_, _-_, _*_, _/_, _≤_, _<_}
+use native.Mathlib.Omega.{arith}
+use lib.Dec.{eqb, leb, ltb}
+use lib.ListN.{length, getD, set}
+use lib.Bits.{bitXor}
+use borrow.Author.Tests.{eq-eqb, ne-eqb, eqb-true, eqb-false, le-leb, lt-leb, lt-ltb, le-ltb, leb-true, ltb-true}
+use Rattle.spec.specs.Layout.{firstFrom}
+use Rattle.laws.specs.First.{first-is, skip}
+use Rattle.laws.specs.Search.{mark}
+use Rattle.packing.specs.Search.{Below, markAll, Placing, slotOn, placeOn, openOn, startOn, rememberOn}
+use Rattle.packing.proofs.Find.{miss}
+use Rattle.packing.specs.declared.Placed.{Placed}
+use Rattle.packing.specs.declared.Placed.the-variants.{At, Full}
+
+pub yes-case : {A : Type 0} (a b : A) {c : Bool} → c ≡ true → cond c a b ≡ a
+yes-case {A} a b e = ap (λ (d : Bool). cond d a b) e
+
+pub no-case : {A : Type 0} (a b : A) {c : Bool} → c ≡ false → cond c a b ≡ b
+no-case {A} a b e = ap (λ (d : Bool). cond d a b) e
+
+-- ---- placing
+
+module _ (U B : List ℕ) (from end : ℕ) (ls : List ℕ) (s : ℕ) (is : s ≡ slotOn U B from end ls) where
+  pub place-full : end * 64 ≤ s → record { used = U; bases = B; answer = Full } ≡ placeOn U B from end ls
+  unfolding placeOn
+  place-full h = sym (yes-case _ _ (le-leb (end * 64) (slotOn U B from end ls) (subst (λ (x : ℕ). end * 64 ≤ x) is h)))
+
+  pub place-at : (b : ℕ) (U' B' : List ℕ) → s < end * 64 → b ≡ bitXor s (getD ls 0 0) → U' ≡ markAll b U ls → B' ≡ mark B b
+      → record { used = U'; bases = B'; answer = At b } ≡ placeOn U B from end ls
+  unfolding placeOn
+  place-at b U' B' h eb eu em =
+      ap₂ (λ (x y : List ℕ). record { used = x; bases = y; answer = At b }) eu em
+      ∙ ap (λ (z : ℕ). record { used = markAll z U ls; bases = mark B z; answer = At z }) (eb ∙ ap (λ (x : ℕ). bitXor x (getD ls 0 0)) is)
+      ∙ sym (no-case _ _ (lt-leb (end * 64) (slotOn U B from end ls) (subst (λ (x : ℕ). x < end * 64) is h)))
+
+pub below-le : (p : Placed) (a b : ℕ) → Below a p → a ≤ b → Below b p
+below-le (At x) a b h k = omega arith
+below-le Full a b h k = tt
+
+-- ---- where a search begins
+
+module _ (C ls : List ℕ) (from end : ℕ) where
+  pub start-more : (length ls ≡ 1 → ⊥) → from ≡ startOn C ls from end
+  unfolding startOn
+  start-more h = sym (no-case _ _ (ne-eqb (length ls) 1 h))
+
+  module _ (one : length ls ≡ 1) (k : ℕ) (is : k ≡ getD C (getD ls 0 0) 0) where
+    pub start-low : k ≤ from → from ≡ startOn C ls from end
+    unfolding startOn
+    start-low h = sym (yes-case _ _ (eq-eqb (length ls) 1 one) ∙ no-case _ _ (le-ltb from (getD C (getD ls 0 0) 0) (subst (λ (z : ℕ). z ≤ from) is h)))
+
+    pub start-out : from < k → end < k → from ≡ startOn C ls from end
+    unfolding startOn
+    start-out h g =
+        sym (yes-case _ _ (eq-eqb (length ls) 1 one) ∙ yes-case _ _ (lt-ltb from (getD C (getD ls 0 0) 0) (subst (λ (z : ℕ). from < z) is h))
+        ∙ no-case _ _ (lt-leb (getD C (getD ls 0 0) 0) end (subst (λ (z : ℕ). end < z) is g)))
+
+    pub start-far : from < k → k ≤ end → k ≡ startOn C ls from end
+    unfolding startOn
+    start-far h g =
+        is ∙ sym (yes-case _ _ (eq-eqb (length ls) 1 one) ∙ yes-case _ _ (lt-ltb from (getD C (getD ls 0 0) 0) (subst (λ (z : ℕ). from < z) is h))
+        ∙ yes-case _ _ (le-leb (getD C (getD ls 0 0) 0) end (subst (λ (z : ℕ). z ≤ end) is g)))
+
+pub start-cases : (C ls : List ℕ) (from end : ℕ)
+    → (startOn C ls from end ≡ from) ⊎ ((length ls ≡ 1) × (startOn C ls from end ≡ getD C (getD ls 0 0) 0) × (from < getD C (getD ls 0 0) 0) × (getD C (getD ls 0 0) 0 ≤ end))
+unfolding startOn
+start-cases C ls from end = go (eqb (length ls) 1) refl (ltb from k) refl (leb k end) refl
+  where
+    k : ℕ
+    k = getD C (getD ls 0 0) 0
+
+    go : (a : Bool) → eqb (length ls) 1 ≡ a → (b : Bool) → ltb from k ≡ b → (d : Bool) → leb k end ≡ d
+        → (cond a (cond b (cond d k from) from) from ≡ from) ⊎ ((length ls ≡ 1) × (cond a (cond b (cond d k from) from) from ≡ k) × (from < k) × (k ≤ end))
+    go false ea b eb d ed = inl refl
+    go true ea false eb d ed = inl refl
+    go true ea true eb false ed = inl refl
+    go true ea true eb true ed = inr (eqb-true (length ls) 1 ea, refl, ltb-true from k eb, leb-true k end ed)
+
+pub start-in : (C ls : List ℕ) (from end : ℕ) → from ≤ end → (from ≤ startOn C ls from end) × (startOn C ls from end ≤ end)
+start-in C ls from end h = go (start-cases C ls from end)
+  where
+    go : (startOn C ls from end ≡ from) ⊎ ((length ls ≡ 1) × (startOn C ls from end ≡ getD C (getD ls 0 0) 0) × (from < getD C (getD ls 0 0) 0) × (getD C (getD ls 0 0) 0 ≤ end))
+        → (from ≤ startOn C ls from end) × (startOn C ls from end ≤ end)
+    go (inl e) = (omega arith, omega arith)
+    go (inr e) = let a = e .1 in let b = e .2 in let d = e .3 in (omega arith, omega arith)
+
+module _ (C ls : List ℕ) (b : ℕ) where
+  pub remember-more : (length ls ≡ 1 → ⊥) → C ≡ rememberOn C ls b
+  unfolding rememberOn
+  remember-more h = sym (no-case _ _ (ne-eqb (length ls) 1 h))
+
+  pub remember-one : (l v : ℕ) → length ls ≡ 1 → l ≡ getD ls 0 0 → v ≡ bitXor b l / 64 → set C l v ≡ rememberOn C ls b
+  unfolding rememberOn
+  remember-one l v one e q =
+      ap (set C l) q ∙ ap (λ (z : ℕ). set C z (bitXor b z / 64)) e ∙ sym (yes-case _ _ (eq-eqb (length ls) 1 one))
+
+-- ---- the first word that is not full
+
+module _ (U : List ℕ) (from end i : ℕ) (a : from ≤ i) (b : i ≤ end) (full : (t : ℕ) → from ≤ t → t < i → getD U t 0 ≡ 0xffffffffffffffff) where
+  shut : (t : ℕ) → from ≤ t → t < i → not (eqb (getD U t 0) 0xffffffffffffffff) ≡ false
+  shut t h k = ap not (eq-eqb (getD U t 0) 0xffffffffffffffff (full t h k))
+
+  pub open-at : (getD U i 0 ≡ 0xffffffffffffffff → ⊥) → i ≡ openOn U from end
+  unfolding openOn
+  open-at h = sym (first-is (λ i. not (eqb (getD U i 0) 0xffffffffffffffff)) (end - from) from i a (omega arith) (ap not (ne-eqb (getD U i 0) 0xffffffffffffffff h)) shut)
+
+  pub open-on : getD U i 0 ≡ 0xffffffffffffffff → (t : ℕ) → from ≤ t → t < i + 1 → getD U t 0 ≡ 0xffffffffffffffff
+  open-on e t h k = go (eqb t i) refl
+    where
+      go : (c : Bool) → eqb t i ≡ c → getD U t 0 ≡ 0xffffffffffffffff
+      go true q = ap (λ (z : ℕ). getD U z 0) (eqb-true t i q) ∙ e
+      go false q = let n = eqb-false t i q in full t h (omega (arith, n))
+
+  pub open-none : end ≤ i → end ≡ openOn U from end
+  unfolding openOn
+  open-none h =
+      let q : from + (end - from) ≡ end = omega arith in
+      sym (miss (λ i. not (eqb (getD U i 0) 0xffffffffffffffff)) (end - from) from (λ t x y. shut t x (omega arith)) ∙ q)

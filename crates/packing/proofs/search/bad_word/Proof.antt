@@ -1,0 +1,92 @@
+-- `packing::search::bad_word` meets its contract. The loop: bit j of bad says that a child's slot is taken, for the labels before k. Assumes nothing.
+use mathlib.Core.Path.{_≡_, refl, sym, ap, _∙_}
+use Prim.Native.Nat.{ℕ, _+_, _-_, _*_, _/_, _≤_}
+use native.Mathlib.Omega.{arith}
+use lib.ListN.{length, take}
+use lib.Bits.{bitXor, xor-lt}
+use Rattle.packing.specs.Search.{movedWord, ClashWord}
+use Rattle.packing.proofs.Find.{in-four, clash-first, clash-more, clash-all, clash-base}
+use borrow.Author.Needs.{needs}
+use Rattle.packing.proofs.search.bad_word.Statement.{statement}
+use Rattle.packing.proofs.search.bad_word.Tie as tie
+
+abbrev Inv-loop : tie.InvT-loop
+Inv-loop used bases i labels first bad₀ k₀ bad k = (k ≤ length labels) × ClashWord used first (take k labels) i bad
+
+abbrev μ-loop : tie.MeasureT-loop
+μ-loop used bases i labels first bad₀ k₀ bad k = length labels - k
+
+shared-slice-read-wide : tie.Need-shared-slice-read-wide Inv-loop μ-loop
+shared-slice-read-wide c = omega arith
+
+wide-requires : tie.Need-wide-requires Inv-loop μ-loop
+wide-requires c κs = search needs
+
+mul-bad : tie.Need-mul-bad Inv-loop μ-loop
+mul-bad c = omega arith
+
+shared-slice-read-bad : tie.Need-shared-slice-read-bad Inv-loop μ-loop
+shared-slice-read-bad c = omega arith
+
+loop-holds : tie.Need-loop-holds Inv-loop μ-loop
+loop-holds c = (c .before .before .before .before .before .before .pre .2, clash-first _ _ (c .before .before .before .before .before .before .args .labels .now) _ (c .before .wide .ensures) (c .before .before .before .before .before .before .pre .2))
+
+returns : tie.Need-returns Inv-loop μ-loop
+returns c = clash-all _ _ (c .before .before .before .before .before .before .before .before .before .args .labels .now) _ _ (c .before .before .before .before .wide .ensures) (c .before .before .loop .k) _ (c .if1 .taken) (c .before .before .loop .inv .1)
+
+shared-slice-read-wide-2 : tie.Need-shared-slice-read-wide-2 Inv-loop μ-loop
+shared-slice-read-wide-2 c = omega arith
+
+wide-requires-2 : tie.Need-wide-requires-2 Inv-loop μ-loop
+wide-requires-2 c κs = search needs
+
+moved-requires : tie.Need-moved-requires Inv-loop μ-loop
+moved-requires c κs =
+    let e = c .before .before .before .before .before .before .wide .ensures in
+    let f = c .wide2 .ensures in
+    let a = c .before .before .before .before .before .before .before .shared-slice-known4 .given 0 in
+    let b = c .before .shared-slice-known6 .given (c .before .before .before .before .loop .k) in
+    in-four _ _ _ (xor-lt 8 (c .before .before .before .before .before .before .wide .result) (c .wide2 .result) (omega arith) (omega arith)) (c .before .before .before .before .before .before .before .before .before .before .before .pre .0)
+
+add-k : tie.Need-add-k Inv-loop μ-loop
+add-k c = omega arith
+
+loop-less : tie.Need-loop-less Inv-loop μ-loop
+loop-less c = omega arith
+
+loop-again : tie.Need-loop-again Inv-loop μ-loop
+loop-again c = (
+  omega arith,
+  clash-more _ _ _ _ _ _ _ (c .before .before .before .before .loop-test .taken) (c .before .before .before .before .before .loop .inv .1)
+      (c .moved .ensures ∙ ap (λ (z : ℕ). movedWord (c .before .before .before .before .before .before .before .before .before .before .before .before .args .used .now) (c .before .before .before .before .before .before .before .before .before .before .before .before .args .i) (bitXor (c .before .before .before .before .before .before .before .wide .result) z)) (c .before .wide2 .ensures)),
+)
+
+moved-requires-2 : tie.Need-moved-requires-2 Inv-loop μ-loop
+moved-requires-2 c κs =
+    let e = c .before .before .before .wide .ensures in
+    let a = c .before .before .before .before .shared-slice-known4 .given 0 in
+    in-four _ _ _ (omega arith) (c .before .before .before .before .before .before .before .before .pre .1)
+
+returns-2 : tie.Need-returns-2 Inv-loop μ-loop
+returns-2 c = clash-base _ _ _ _ _ (c .before .before .before .before .wide .ensures) _ _ _ (c .before .loop-test .left) (c .before .before .loop .inv .1) (c .moved2 .ensures)
+
+pub bad-word-spec : {M : Type 1} → statement M
+bad-word-spec =
+    tie.close
+    (tie.spec
+    Inv-loop
+    μ-loop
+    shared-slice-read-wide
+    wide-requires
+    mul-bad
+    shared-slice-read-bad
+    loop-holds
+    returns
+    shared-slice-read-wide-2
+    wide-requires-2
+    moved-requires
+    add-k
+    loop-less
+    loop-again
+    moved-requires-2
+    returns-2)

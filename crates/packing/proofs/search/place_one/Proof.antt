@@ -1,0 +1,91 @@
+-- `packing::search::place_one` meets its contract. Assumes nothing.
+use mathlib.Core.Path.{_≡_, ap, _∙_}
+use Prim.Native.Nat.{ℕ}
+use native.Mathlib.Omega.{arith}
+use lib.ListN.{getD}
+use lib.Bits.{bitXor}
+use Rattle.laws.specs.Xor.{xor-block-of}
+use Rattle.packing.specs.Search.{slotOn}
+use Rattle.packing.proofs.Steps.{place-full, place-at}
+use borrow.Author.Needs.{needs}
+use Rattle.packing.proofs.search.place_one.Statement.{statement}
+use Rattle.packing.proofs.search.place_one.Tie as tie
+
+find-slot-requires : tie.Need-find-slot-requires
+find-slot-requires c κs = search needs
+
+mul-if1 : tie.Need-mul-if1
+mul-if1 c = search needs
+
+same-length : tie.Need-same-length
+same-length c = search needs
+
+same-length-2 : tie.Need-same-length-2
+same-length-2 c = search needs
+
+returns : tie.Need-returns
+unfolding slotOn
+returns c = (place-full _ _ _ _ _ _ (c .before .find-slot .ensures) (c .if1 .taken), tt)
+
+shared-slice-read-wide : tie.Need-shared-slice-read-wide
+shared-slice-read-wide c = search needs
+
+wide-requires : tie.Need-wide-requires
+wide-requires c κs = search needs
+
+mark-slot-requires : tie.Need-mark-slot-requires
+mark-slot-requires c κs =
+    let e = c .before .wide .ensures in
+    let b = c .before .before .shared-slice-known2 .given 0 in
+    let q = xor-block-of (c .before .before .before .before .find-slot .result) (c .before .wide .result) (omega arith) in
+    let l = c .before .before .before .if1 .left in
+    let p = c .before .before .before .before .before .before .before .before .before .before .pre .0 in
+    let four = p .blocks in
+    let h = p .in-bases in
+    omega arith
+
+mark-all-requires : tie.Need-mark-all-requires
+mark-all-requires c κs =
+    let e = c .before .before .before .before .before .wide .ensures in
+    let b = c .before .before .before .before .before .before .shared-slice-known2 .given 0 in
+    let q = xor-block-of (c .before .before .before .before .before .before .before .before .find-slot .result) (c .before .before .before .before .before .wide .result) (omega arith) in
+    let l = c .before .before .before .before .before .before .before .if1 .left in
+    let p = c .before .before .before .before .before .before .before .before .before .before .before .before .before .before .pre .0 in
+    let four = p .blocks in
+    let h = p .in-used in
+    omega arith
+
+same-length-3 : tie.Need-same-length-3
+same-length-3 c = search needs
+
+same-length-4 : tie.Need-same-length-4
+same-length-4 c = search needs
+
+returns-2 : tie.Need-returns-2
+unfolding slotOn
+returns-2 c =
+    let e = c .before .before .before .before .before .before .before .before .wide .ensures in
+    let b = c .before .before .before .before .before .before .before .before .before .shared-slice-known2 .given 0 in
+    let q = xor-block-of (c .before .before .before .before .before .before .before .before .before .before .before .find-slot .result) (c .before .before .before .before .before .before .before .before .wide .result) (omega arith) in
+    let l = c .before .before .before .before .before .before .before .before .before .before .if1 .left in
+    let four = c .before .before .before .before .before .before .before .before .before .before .before .before .before .before .before .before .before .pre .0 .blocks in (
+      place-at _ _ _ _ _ _ (c .before .before .before .before .before .before .before .before .before .before .before .find-slot .ensures) _ _ _ l (ap (bitXor (c .before .before .before .before .before .before .before .before .before .before .before .find-slot .result)) e) (c .before .before .mark-all .ensures) (c .before .before .before .before .before .before .mark-slot .ensures),
+      omega arith,
+    )
+
+pub place-one-spec : {M : Type 1} → statement M
+place-one-spec =
+    tie.close
+    (tie.spec
+    find-slot-requires
+    mul-if1
+    same-length
+    same-length-2
+    returns
+    shared-slice-read-wide
+    wide-requires
+    mark-slot-requires
+    mark-all-requires
+    same-length-3
+    same-length-4
+    returns-2)

@@ -1,0 +1,55 @@
+-- `packing::search::remember` meets its contract. Assumes nothing.
+use mathlib.Core.Path.{_≡_, ap, _∙_}
+use native.Mathlib.Omega.{arith}
+use lib.Bits.{xor-lt}
+use Rattle.packing.proofs.Steps.{remember-more, remember-one}
+use borrow.Author.Needs.{needs}
+use Rattle.packing.proofs.search.remember.Statement.{statement}
+use Rattle.packing.proofs.search.remember.Tie as tie
+
+returns : tie.Need-returns
+returns c = remember-more _ _ _ (c .if1 .taken)
+
+shared-slice-read-wide : tie.Need-shared-slice-read-wide
+shared-slice-read-wide c = search needs
+
+wide-requires : tie.Need-wide-requires
+wide-requires c κs = search needs
+
+narrow-requires : tie.Need-narrow-requires
+narrow-requires c κs =
+    let e = c .wide .ensures in
+    let b = c .before .shared-slice-known2 .given 0 in
+    let h = xor-lt 32 (c .before .before .before .before .before .args .base) (c .wide .result) (c .before .before .before .before .before .pre .2) (omega arith) in
+    omega arith
+
+mul-cursors : tie.Need-mul-cursors
+mul-cursors c =
+    let e = c .before .wide .ensures in
+    let b = c .before .before .shared-slice-known2 .given 0 in
+    omega arith
+
+slice-write-cursors : tie.Need-slice-write-cursors
+slice-write-cursors c =
+    let e = c .before .wide .ensures in
+    let b = c .before .before .shared-slice-known2 .given 0 in
+    omega arith
+
+same-length : tie.Need-same-length
+same-length c = search needs
+
+returns-2 : tie.Need-returns-2
+returns-2 c = remember-one _ _ _ _ _ (c .before .before .before .if1 .left) (c .before .wide .ensures) (c .narrow .ensures)
+
+pub remember-spec : {M : Type 1} → statement M
+remember-spec =
+    tie.close
+    (tie.spec
+    returns
+    shared-slice-read-wide
+    wide-requires
+    narrow-requires
+    mul-cursors
+    slice-write-cursors
+    same-length
+    returns-2)
