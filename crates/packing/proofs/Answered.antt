@@ -1,22 +1,19 @@
 -- The capacity that is searched, and what the code's answers say of it. Assumes nothing.
-use mathlib.Core.Path.{_≡_, refl, sym, ap, ap₂, _∙_, subst}
-use mathlib.Core.Bool.{Bool, true, false, cond, false≢true}
+use mathlib.Core.Path.{_≡_, refl, sym, ap, _∙_}
 use mathlib.Core.List.{List, _++_, map}
-use Prim.Native.Nat.{ℕ, _+_, _-_, _*_, _/_, _%_, _^_, _≤_, _<_, min}
+use Prim.Native.Nat.{ℕ, _+_, _-_, _*_, _^_, _≤_, _<_, min}
 use native.Mathlib.Omega.{arith}
-use lib.Dec.{leb}
 use lib.ListN.{length, take, drop, replicate}
 use borrow.Author.Tests.{le-leb, lt-leb}
-use Rattle.spec.specs.Lists.{fold, over}
+use Rattle.spec.specs.Lists.{fold}
 use Rattle.spec.specs.Token.{Token, idOf}
 use Rattle.spec.specs.Trie.{nodes, nodeCount}
 use Rattle.spec.specs.Layout.{top, words, puts, tableWords}
 use Rattle.spec.specs.Valid.{Valid}
-use Rattle.spec.specs.Memory.{padded, tableList, rootList}
 use Rattle.laws.specs.Bounds.{tableWords-small}
 use Rattle.laws.specs.Fill.{write}
 use Rattle.trie.specs.Run.{see}
-use Rattle.trie.specs.Stands.{Roots, Stands}
+use Rattle.trie.specs.Stands.{Stands}
 use Rattle.packing.specs.Search.{Bounds}
 use Rattle.packing.proofs.Steps.{yes-case, no-case}
 use Rattle.packing.specs.Nodes.{blocks, nodeWrites, rootWord}

@@ -2,18 +2,18 @@
 -- for one node more. Assumes nothing.
 use mathlib.Core.Path.{_≡_, refl, sym, ap, ap₂, _∙_, subst}
 use mathlib.Core.Logic.{_⊎_, inl, inr}
-use mathlib.Core.Bool.{Bool, true, false, not, cond, false≢true}
+use mathlib.Core.Bool.{Bool, true, false, not, cond}
 use mathlib.Core.List.{List, [], _∷_, map, List·Memᴰ as Mem, List·Memᴰ·head as here}
-use Prim.Native.Nat.{ℕ, zero, suc, _+_, _-_, _*_, _/_, _%_, _^_, _≤_, _<_, max}
+use Prim.Native.Nat.{ℕ, _-_, _*_, _/_, _%_, _≤_, _<_, max}
 use native.Mathlib.Omega.{arith}
 use lib.Dec.{eqb, leb, ltb}
 use lib.ListN.{length, getD, set}
 use lib.Seq.{getD-set-same, getD-set-other}
 use lib.Bits.{bitXor, xor-comm}
-use borrow.Author.Tests.{eq-eqb, eqb-true, eqb-false, leb-true, leb-false, ltb-true, ltb-false, not-false, not-true}
+use borrow.Author.Tests.{eqb-true, eqb-false, leb-true, leb-false, ltb-true, ltb-false, not-false}
 use Rattle.spec.specs.Lists.{any, byteIn}
 use Rattle.spec.specs.Layout.{Put, firstFrom, taken, free, words, top, first, choose, put}
-use Rattle.laws.specs.Tests.{either, clash, or-r}
+use Rattle.laws.specs.Tests.{or-r}
 use Rattle.laws.specs.Nodes.{ByteLabels}
 use Rattle.laws.specs.Xor.{xor-cancel, xor-block-of}
 use Rattle.laws.specs.First.{from-le, least}

@@ -2,16 +2,14 @@
 -- Assumes nothing.
 use mathlib.Core.Path.{_≡_, refl, sym, ap, ap₂, _∙_, subst}
 use mathlib.Core.Logic.{_⊎_, inl, inr}
-use mathlib.Core.Bool.{Bool, true, false, cond}
+use mathlib.Core.Bool.{cond}
 use mathlib.Core.List.{List, [], _∷_, _++_, map, append-assoc, List·Memᴰ as Mem, List·Memᴰ·cases-cons as cases-cons, List·Memᴰ·head as here, Memᴰ·append-right as mem-right, List·Memᴰ·not-nil as not-nil, List·Memᴰ·tail as there}
 use Prim.Native.Nat.{ℕ, zero, suc, _+_, _-_, _*_, _/_, _%_, _≤_, _<_}
 use native.Mathlib.Omega.{arith}
-use native.Mathlib.Nat.{add-zero}
-use lib.Dec.{eqb}
 use lib.ListN.{length, length-append, getD, set, take, drop, replicate, length-replicate, replicate-append-replicate, List·getD-map}
 use lib.Seq.{set-append-left, ext-getD, getD-take, length-take-le}
 use lib.Bits.{bitXor}
-use Rattle.spec.specs.Lists.{each, fold, has, upFrom, over}
+use Rattle.spec.specs.Lists.{each, fold, has, over}
 use Rattle.spec.specs.Token.{Token, idOf}
 use Rattle.spec.specs.Trie.{nodes, nodeCount, labels}
 use Rattle.spec.specs.Layout.{pack, baseOf, puts, wordOf, rootAt, tableAt, tableWords}
@@ -22,10 +20,10 @@ use Rattle.laws.specs.Nodes.{label-node}
 use Rattle.laws.specs.Numbered.{number, Fresh, place-of, place-stays, place-new}
 use Rattle.laws.specs.Chain.{kids}
 use Rattle.laws.specs.Listed.{up-length, up-at}
-use Rattle.laws.specs.Fill.{Write, write, writeAll, length-writes, childWrite, writes, in-table, table-filled}
+use Rattle.laws.specs.Fill.{Write, write, writeAll, childWrite, writes, in-table, table-filled}
 use Rattle.trie.specs.Run.{see}
-use Rattle.trie.specs.Stands.{Chain, num, Tree, Roots, final}
-use Rattle.trie.specs.Chains.{final-snoc, number-pos, number-lt, kid-lt, length-map, labels-few, label-byte, num-in, num-out, member}
+use Rattle.trie.specs.Stands.{Chain, num, Tree, Roots}
+use Rattle.trie.specs.Chains.{final-snoc, number-pos, number-lt, kid-lt, length-map, labels-few, num-in, num-out, member}
 use Rattle.trie.specs.declared.Node.{Node}
 use Rattle.packing.proofs.Steps.{yes-case, no-case}
 use Rattle.packing.specs.Nodes.{nodeWord, childWrites, nodeWrites, rootWord}

@@ -1,16 +1,16 @@
 -- The turns of the search: a word of 64 candidates, the first that is free, the marks of a node's slots. Assumes nothing.
 use mathlib.Core.Path.{_≡_, refl, sym, ap, ap₂, _∙_, subst}
 use mathlib.Core.Logic.{_⊎_, inl, inr}
-use mathlib.Core.Bool.{Bool, true, false, not, _||_, or-false, or-assoc, or-comm}
-use mathlib.Core.List.{List, [], _∷_, _++_}
+use mathlib.Core.Bool.{Bool, true, false, not, _||_, or-false, or-comm}
+use mathlib.Core.List.{List, [], _∷_}
 use Prim.Native.Nat.{ℕ, zero, suc, _+_, _-_, _*_, _/_, _%_, _^_, _≤_, _<_, max}
 use native.Mathlib.Omega.{arith}
 use lib.Dec.{eqb, ltb}
 use lib.ListN.{length, getD, take, drop, length-set, drop-of-length-le}
 use lib.Seq.{take-suc, take-all, drop-cons}
-use lib.Bits.{bitXor, bitOr, xor-lt, xor-shr, xor-mod, xor-comm}
+use lib.Bits.{bitXor, bitOr, xor-shr, xor-mod, xor-comm}
 use lib.Count.{trailingZeros, trailing-of-zero}
-use borrow.Author.Tests.{eq-eqb, ne-eqb, eqb-true, ltb-true, ltb-false}
+use borrow.Author.Tests.{eq-eqb, ne-eqb, ltb-true, ltb-false}
 use Rattle.spec.specs.Lists.{any}
 use Rattle.spec.specs.Layout.{firstFrom}
 use Rattle.laws.specs.Tests.{either, or-l, or-r, any-append}

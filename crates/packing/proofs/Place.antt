@@ -3,12 +3,12 @@ use mathlib.Core.Path.{_≡_, refl, sym, ap, ap₂, _∙_, subst}
 use mathlib.Core.Logic.{_⊎_, inl, inr}
 use mathlib.Core.Bool.{Bool, true, false, not, _&&_, _||_, cond, or-assoc, or-comm, or-false}
 use mathlib.Core.List.{List, [], _∷_, map, List·Memᴰ as Mem, List·Memᴰ·head as here, List·Memᴰ·tail as there}
-use Prim.Native.Nat.{ℕ, zero, suc, _+_, _-_, _*_, _/_, _%_, _^_, _≤_, _<_}
+use Prim.Native.Nat.{ℕ, zero, suc, _+_, _-_, _*_, _/_, _%_, _≤_, _<_}
 use native.Mathlib.Omega.{arith}
 use lib.Dec.{eqb, leb, ltb}
 use lib.ListN.{length, getD}
 use lib.Bits.{bitXor}
-use borrow.Author.Tests.{le-leb, lt-leb, leb-true, leb-false, ltb-true, ltb-false}
+use borrow.Author.Tests.{leb-true, leb-false, ltb-true, ltb-false}
 use Rattle.spec.specs.Lists.{any, byteIn}
 use Rattle.spec.specs.Layout.{Put, firstFrom, used, taken, free, words, top, first, choose, put}
 use Rattle.laws.specs.Tests.{either, clash}
@@ -18,7 +18,7 @@ use Rattle.laws.specs.First.{first-passes, least, from-le, first-is}
 use Rattle.laws.specs.Placed.{above}
 use Rattle.laws.specs.Search.{marked, mark, mark-is}
 use Rattle.packing.specs.Going.{MarksOk}
-use Rattle.packing.specs.Search.{badAt, clashAt, markAll, slotOn, Bounds}
+use Rattle.packing.specs.Search.{badAt, clashAt, markAll, slotOn}
 use Rattle.packing.proofs.Find.{length-mark, slot-in}
 
 -- ---- the marks stand for what is placed

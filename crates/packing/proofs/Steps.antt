@@ -9,10 +9,9 @@ use lib.Dec.{eqb, leb, ltb}
 use lib.ListN.{length, getD, set}
 use lib.Bits.{bitXor}
 use borrow.Author.Tests.{eq-eqb, ne-eqb, eqb-true, eqb-false, le-leb, lt-leb, lt-ltb, le-ltb, leb-true, ltb-true}
-use Rattle.spec.specs.Layout.{firstFrom}
-use Rattle.laws.specs.First.{first-is, skip}
+use Rattle.laws.specs.First.{first-is}
 use Rattle.laws.specs.Search.{mark}
-use Rattle.packing.specs.Search.{Below, markAll, Placing, slotOn, placeOn, openOn, startOn, rememberOn}
+use Rattle.packing.specs.Search.{Below, markAll, slotOn, placeOn, openOn, startOn, rememberOn}
 use Rattle.packing.proofs.Find.{miss}
 use Rattle.packing.specs.declared.Placed.{Placed}
 use Rattle.packing.specs.declared.Placed.the-variants.{At, Full}

@@ -13,7 +13,7 @@ use borrow.Author.Tests.{eq-eqb, ne-eqb, le-leb, lt-leb}
 use Rattle.spec.specs.Lists.{fold}
 use Rattle.spec.specs.Layout.{pack}
 use Rattle.laws.specs.Grow.{fold-append}
-use Rattle.laws.specs.Fill.{Write, write}
+use Rattle.laws.specs.Fill.{write}
 use Rattle.trie.specs.Chains.{length-map}
 use Rattle.trie.specs.declared.Node.{Node}
 use Rattle.packing.proofs.Steps.{yes-case, no-case}

@@ -1,8 +1,8 @@
 -- What the code does with the nodes of any memory: the base that is kept in a node, the words of its children, the words of the roots.
 -- Assumes nothing.
-use mathlib.Core.Bool.{Bool, true, false, cond}
+use mathlib.Core.Bool.{true, false, cond}
 use mathlib.Core.List.{List, [], _∷_, _++_}
-use Prim.Native.Nat.{ℕ, zero, suc, _+_, _-_, _*_, _/_, max, min}
+use Prim.Native.Nat.{ℕ, zero, suc, _+_, _/_, max, min}
 use lib.Dec.{eqb, leb}
 use lib.Bits.{bitXor}
 use Rattle.spec.specs.Layout.{pack}

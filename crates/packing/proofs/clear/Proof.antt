@@ -1,12 +1,11 @@
 -- `packing::clear` meets its contract. The loop: the first i cells are 0. Assumes nothing.
-use mathlib.Core.Path.{_≡_, refl, sym, ap, _∙_}
+use mathlib.Core.Path.{_≡_, refl, ap, _∙_}
 use mathlib.Core.List.{List, _++_}
 use Prim.Native.Nat.{ℕ, _-_, _≤_}
 use native.Mathlib.Omega.{arith}
 use lib.ListN.{length, set, drop, replicate, length-set}
 use borrow.Author.Fill.{fill-none, fill-more}
 use Rattle.packing.proofs.Turns.{filled-all}
-use borrow.Author.Needs.{needs}
 use Rattle.packing.proofs.clear.Statement.{statement}
 use Rattle.packing.proofs.clear.Tie as tie
 

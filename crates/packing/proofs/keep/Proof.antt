@@ -1,5 +1,5 @@
 -- `packing::keep` meets its contract. Assumes nothing.
-use mathlib.Core.Path.{_≡_, sym, ap, _∙_, subst}
+use mathlib.Core.Path.{sym, ap, _∙_, subst}
 use Prim.Native.Nat.{_^_}
 use Rattle.trie.specs.Tails.{setTail}
 use Rattle.packing.specs.Search.{Below}

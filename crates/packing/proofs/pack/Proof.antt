@@ -1,8 +1,6 @@
 -- `packing::pack` meets its contract. Assumes nothing.
-use mathlib.Core.Path.{_≡_, refl, sym, _∙_}
+use mathlib.Core.Path.{refl}
 use native.Mathlib.Omega.{arith}
-use Prim.Native.Nat.{_+_, _*_, _≤_, _<_}
-use lib.ListN.{length}
 use Rattle.packing.proofs.Walked.{ended-full, ended-open}
 use Rattle.packing.proofs.Answered.{end-zero, end-bounds, end-past, end-room, past-answer, words-pos, fits-answer, capacity-le}
 use borrow.Author.Needs.{needs}

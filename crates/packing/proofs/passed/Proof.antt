@@ -1,10 +1,8 @@
 -- `packing::passed` meets its contract. Assumes nothing.
-use mathlib.Core.Path.{_≡_, sym, ap, ap₂, _∙_}
+use mathlib.Core.Path.{sym, ap, ap₂, _∙_}
 use mathlib.Core.Bool.{false}
 use Prim.Native.Nat.{ℕ}
 use Rattle.packing.specs.Nodes.{passedOn}
-use Rattle.packing.specs.declared.Placed.{Placed}
-use Rattle.packing.specs.declared.Front.{Front}
 use borrow.Author.Needs.{needs}
 use Rattle.packing.proofs.passed.Statement.{statement}
 use Rattle.packing.proofs.passed.Tie as tie

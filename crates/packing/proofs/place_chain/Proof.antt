@@ -8,7 +8,6 @@ use Rattle.spec.specs.Layout.{Put}
 use Rattle.trie.specs.declared.Node.{Node}
 use Rattle.packing.specs.Walk.{Amid, Within}
 use Rattle.packing.proofs.Walked.{at-zero, no-fuel, past-made, full-ends, open-goes}
-use borrow.Author.Needs.{needs}
 use Rattle.packing.proofs.place_chain.Statement.{statement}
 use Rattle.packing.proofs.place_chain.Tie as tie
 

@@ -1,8 +1,8 @@
 -- `packing::place_gathered` meets its contract. Assumes nothing.
-use mathlib.Core.Path.{_≡_, sym, ap, _∙_, subst}
+use mathlib.Core.Path.{sym, subst}
 use Prim.Native.Nat.{ℕ, _≤_}
 use native.Mathlib.Omega.{arith}
-use lib.ListN.{length, take}
+use lib.ListN.{length}
 use lib.Seq.{length-take-le}
 use Rattle.spec.specs.Trie.{labels}
 use Rattle.trie.specs.Gather.{gathered-take}

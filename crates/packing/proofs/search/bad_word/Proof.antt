@@ -1,6 +1,6 @@
 -- `packing::search::bad_word` meets its contract. The loop: bit j of bad says that a child's slot is taken, for the labels before k. Assumes nothing.
-use mathlib.Core.Path.{_≡_, refl, sym, ap, _∙_}
-use Prim.Native.Nat.{ℕ, _+_, _-_, _*_, _/_, _≤_}
+use mathlib.Core.Path.{ap, _∙_}
+use Prim.Native.Nat.{ℕ, _-_, _≤_}
 use native.Mathlib.Omega.{arith}
 use lib.ListN.{length, take}
 use lib.Bits.{bitXor, xor-lt}

@@ -4,7 +4,6 @@ use Prim.Native.Nat.{ℕ, _-_, _≤_, _<_}
 use native.Mathlib.Omega.{arith}
 use lib.ListN.{getD}
 use Rattle.packing.proofs.Steps.{open-at, open-on, open-none}
-use borrow.Author.Needs.{needs}
 use Rattle.packing.proofs.search.open_from.Statement.{statement}
 use Rattle.packing.proofs.search.open_from.Tie as tie
 

@@ -1,9 +1,8 @@
 -- `packing::search::place_labels` meets its contract. Assumes nothing.
-use mathlib.Core.Path.{_≡_, sym, ap, _∙_, subst}
+use mathlib.Core.Path.{subst}
 use Prim.Native.Nat.{_*_}
 use native.Mathlib.Omega.{arith}
 use Rattle.packing.specs.Search.{Below}
-use Rattle.packing.specs.declared.Placed.{Placed}
 use Rattle.packing.proofs.Steps.{start-in}
 use Rattle.packing.proofs.Chosen.{stands-full, stands-at}
 use borrow.Author.Needs.{needs}

@@ -1,8 +1,6 @@
 -- `packing::search::place_one` meets its contract. Assumes nothing.
-use mathlib.Core.Path.{_≡_, ap, _∙_}
-use Prim.Native.Nat.{ℕ}
+use mathlib.Core.Path.{ap}
 use native.Mathlib.Omega.{arith}
-use lib.ListN.{getD}
 use lib.Bits.{bitXor}
 use Rattle.laws.specs.Xor.{xor-block-of}
 use Rattle.packing.specs.Search.{slotOn}

@@ -1,5 +1,4 @@
 -- `packing::search::remember` meets its contract. Assumes nothing.
-use mathlib.Core.Path.{_≡_, ap, _∙_}
 use native.Mathlib.Omega.{arith}
 use lib.Bits.{xor-lt}
 use Rattle.packing.proofs.Steps.{remember-more, remember-one}

@@ -1,6 +1,5 @@
 -- `packing::words::pack_word` meets its contract. Assumes nothing.
 use Rattle.packing.proofs.Turns.{shifted}
-use borrow.Author.Needs.{needs}
 use Rattle.packing.proofs.words.pack_word.Statement.{statement}
 use Rattle.packing.proofs.words.pack_word.Tie as tie
 

@@ -1,11 +1,9 @@
 -- `packing::words::put_children` meets its contract. The loop: the writes from node c on are those that are left. Assumes nothing.
 use mathlib.Core.Path.{_≡_, refl, sym, ap, _∙_}
-use mathlib.Core.List.{List}
-use Prim.Native.Nat.{ℕ}
 use native.Mathlib.Omega.{arith}
 use lib.ListN.{length, length-set}
 use Rattle.spec.specs.Lists.{fold}
-use Rattle.laws.specs.Fill.{Write, write}
+use Rattle.laws.specs.Fill.{write}
 use Rattle.trie.specs.Run.{see}
 use Rattle.packing.specs.Nodes.{childWrites}
 use Rattle.packing.proofs.Turns.{children-end, children-out, children-done, children-turn}

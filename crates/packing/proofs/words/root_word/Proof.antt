@@ -1,6 +1,4 @@
 -- `packing::words::root_word` meets its contract. Assumes nothing.
-use mathlib.Core.Path.{_≡_, ap, _∙_}
-use native.Mathlib.Omega.{arith}
 use Rattle.packing.proofs.Turns.{root-none, root-out, root-at}
 use borrow.Author.Needs.{needs}
 use Rattle.packing.proofs.words.root_word.Statement.{statement}
