@@ -86,7 +86,8 @@ module _ (ts : List Token) (v : Valid ts) (cap made w : ℕ) (rs m₀ t m t' rs'
     answer = ap Words is ∙ sym (yes-case _ _ (le-leb (tableWords ts) cap fit));
     table = λ n e. et ∙ ap (λ (k : ℕ). fold write (replicate (length t) 0) (nodeWrites (see m) k (k - 1) 1)) em
         ∙ ap (fold write (replicate (length t) 0)) (nodes-are ts m D) ∙ table-padded ts v (length t) (omega (arith, fit));
-    roots = λ n e. er ∙ ap (λ (k : ℕ). map (rootWord (see m) k) (take 65536 rs) ++ drop 65536 rs) em ∙ roots-over ts m rs D (S .growing .root) hr;
+    roots = λ n e. er ∙ ap (λ (k : ℕ). map (rootWord (see m) k) (take 65536 rs) ++ drop 65536 rs) em
+        ∙ roots-over ts m rs D (S .growing .root) hr;
   }
     where
       D : Based ts m

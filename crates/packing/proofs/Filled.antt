@@ -3,7 +3,9 @@
 use mathlib.Core.Path.{_≡_, refl, sym, ap, ap₂, _∙_, subst}
 use mathlib.Core.Logic.{_⊎_, inl, inr}
 use mathlib.Core.Bool.{cond}
-use mathlib.Core.List.{List, [], _∷_, _++_, map, append-assoc, List·Memᴰ as Mem, List·Memᴰ·cases-cons as cases-cons, List·Memᴰ·head as here, Memᴰ·append-right as mem-right, List·Memᴰ·not-nil as not-nil, List·Memᴰ·tail as there}
+use mathlib.Core.List.{List, [], _∷_, _++_, map, append-assoc}
+use mathlib.Core.List.{List·Memᴰ as Mem, List·Memᴰ·cases-cons as cases-cons, List·Memᴰ·head as here}
+use mathlib.Core.List.{Memᴰ·append-right as mem-right, List·Memᴰ·not-nil as not-nil, List·Memᴰ·tail as there}
 use Prim.Native.Nat.{ℕ, zero, suc, _+_, _-_, _*_, _/_, _%_, _≤_, _<_}
 use native.Mathlib.Omega.{arith}
 use lib.ListN.{length, length-append, getD, set, take, drop, replicate, length-replicate, replicate-append-replicate, List·getD-map}
@@ -37,7 +39,8 @@ pub record Based (ts : List Token) (m : List ℕ) : Type 0 where
 -- ---- the children of a node
 
 -- along a chain the writes are those of its numbers
-children-chain : (M : ℕ → Node) (made base : ℕ) (l : List ℕ) (f h : ℕ) → length l ≤ f → ((c : ℕ) → Mem c l → c < made) → Chain (λ c. M c .next) h l
+children-chain : (M : ℕ → Node) (made base : ℕ) (l : List ℕ) (f h : ℕ) → length l ≤ f → ((c : ℕ) → Mem c l → c < made)
+    → Chain (λ c. M c .next) h l
     → childWrites M made base f h ≡ map (λ c. record { at = bitXor base (M c .label); val = nodeWord (M c) (M c .label) }) l
 children-chain M made base [] f h n s k = children-end M made base f h k
 children-chain M made base (c ∷ l) zero h n s k = absurd (omega arith)
@@ -46,7 +49,8 @@ children-chain M made base (c ∷ l) (suc f) h n s k =
     ∙ ap (λ (r : List Write). record { at = bitXor base (M c .label); val = nodeWord (M c) (M c .label) } ∷ r)
     (children-chain M made base l f (M c .next) (omega arith) (λ x m. s x (there m)) (k .2))
 
-map-through : {A B C : Type 0} (g : B → C) (f : A → B) (h : A → C) (l : List A) → ((x : A) → Mem x l → g (f x) ≡ h x) → map g (map f l) ≡ map h l
+map-through : {A B C : Type 0} (g : B → C) (f : A → B) (h : A → C) (l : List A) → ((x : A) → Mem x l → g (f x) ≡ h x)
+    → map g (map f l) ≡ map h l
 map-through g f h [] e = refl
 map-through {C} g f h (x ∷ l) e = ap₂ (λ (y : C) (r : List C). y ∷ r) (e x (here refl)) (map-through g f h l (λ y m. e y (there m)))
 
@@ -56,7 +60,8 @@ map-through {C} g f h (x ∷ l) e = ap₂ (λ (y : C) (r : List C). y ∷ r) (e 
 next-number : (s : List (List ℕ)) (q : List ℕ) (t : List (List ℕ)) → Fresh (s ++ (q ∷ t)) → number (s ++ (q ∷ t)) q ≡ suc (length s)
 unfolding number
 next-number s q t f =
-    ap suc (ap (λ (ps : List (List ℕ)). place-of ps q) (sym (append-assoc s (q ∷ []) t)) ∙ place-stays t (mem-right s (here refl)) ∙ place-new s q (apart s f))
+    ap suc (ap (λ (ps : List (List ℕ)). place-of ps q) (sym (append-assoc s (q ∷ []) t)) ∙ place-stays t (mem-right s (here refl))
+    ∙ place-new s q (apart s f))
   where
     apart : (s : List (List ℕ)) → Fresh (s ++ (q ∷ t)) → Mem q s → ⊥
     apart [] f m = not-nil m
@@ -95,13 +100,16 @@ module _ (ts : List Token) (m : List ℕ) (D : Based ts m) where
           ap₂ (λ (x y : ℕ). record { at = x; val = y }) (ap₂ bitXor (D .base p mp) lab)
           (ap (nodeWord (see m (number ps (p ++ (l ∷ []))))) lab ∙ word-is (p ++ (l ∷ [])) l mc)
 
-  nodes-from : (s t : List (List ℕ)) → s ++ t ≡ ps → nodeWrites (see m) (nodeCount ts) (length t) (suc (length s)) ≡ each (λ p. map (childWrite ts p) (labels ps p)) t
+  nodes-from : (s t : List (List ℕ)) → s ++ t ≡ ps
+      → nodeWrites (see m) (nodeCount ts) (length t) (suc (length s)) ≡ each (λ p. map (childWrite ts p) (labels ps p)) t
   unfolding nodeWrites each
   nodes-from s [] e = refl
   nodes-from s (q ∷ t) e =
       ap₂ _++_
-      (ap (λ (i : ℕ). childWrites (see m) (nodeCount ts) (see m i .tail) 256 (see m i .head)) at ∙ children-is q (subst (λ (z : List (List ℕ)). Mem q z) e (mem-right s (here refl))))
-      (ap (λ (i : ℕ). nodeWrites (see m) (nodeCount ts) (length t) (suc i)) more ∙ nodes-from (s ++ (q ∷ [])) t (append-assoc s (q ∷ []) t ∙ e))
+      (ap (λ (i : ℕ). childWrites (see m) (nodeCount ts) (see m i .tail) 256 (see m i .head)) at
+      ∙ children-is q (subst (λ (z : List (List ℕ)). Mem q z) e (mem-right s (here refl))))
+      (ap (λ (i : ℕ). nodeWrites (see m) (nodeCount ts) (length t) (suc i)) more
+      ∙ nodes-from (s ++ (q ∷ [])) t (append-assoc s (q ∷ []) t ∙ e))
     where
       at : suc (length s) ≡ number ps q
       at = sym (ap (λ (z : List (List ℕ)). number z q) (sym e) ∙ next-number s q t (subst Fresh (sym e) (D .tree .fresh)))
@@ -118,17 +126,22 @@ module _ (ts : List Token) (m : List ℕ) (D : Based ts m) where
 
 -- ---- the table
 
-writes-front : (ws : List Write) (s t : List ℕ) → ((w : Write) → Mem w ws → w .at < length s) → fold write (s ++ t) ws ≡ fold write s ws ++ t
+writes-front : (ws : List Write) (s t : List ℕ) → ((w : Write) → Mem w ws → w .at < length s)
+    → fold write (s ++ t) ws ≡ fold write s ws ++ t
 unfolding fold write
 writes-front [] s t h = refl
 writes-front (w ∷ ws) s t h =
     ap (λ (l : List ℕ). fold write l ws) (set-append-left s t (w .at) (w .val) (h w (here refl)))
-    ∙ writes-front ws (set s (w .at) (w .val)) t (λ u mu. let a = h u (there mu) in let b = lib.ListN.length-set s (w .at) (w .val) in omega arith)
+    ∙ writes-front ws (set s (w .at) (w .val)) t
+    (λ u mu. let a = h u (there mu) in let b = lib.ListN.length-set s (w .at) (w .val) in omega arith)
 
-pub table-padded : (ts : List Token) → Valid ts → (n : ℕ) → tableWords ts ≤ n → fold write (replicate n 0) (writes ts) ≡ padded (tableList ts) n
+pub table-padded : (ts : List Token) → Valid ts → (n : ℕ) → tableWords ts ≤ n
+    → fold write (replicate n 0) (writes ts) ≡ padded (tableList ts) n
 table-padded ts v n h =
-    ap (λ (l : List ℕ). fold write l (writes ts)) (sym (replicate-append-replicate (tableWords ts) (n - tableWords ts) 0 ∙ ap (λ (k : ℕ). replicate k 0) sum))
-    ∙ writes-front (writes ts) (replicate (tableWords ts) 0) (replicate (n - tableWords ts) 0) (λ w mw. let a = in-table ts v w mw in let b = length-replicate {A = ℕ} (tableWords ts) 0 in omega arith)
+    ap (λ (l : List ℕ). fold write l (writes ts))
+    (sym (replicate-append-replicate (tableWords ts) (n - tableWords ts) 0 ∙ ap (λ (k : ℕ). replicate k 0) sum))
+    ∙ writes-front (writes ts) (replicate (tableWords ts) 0) (replicate (n - tableWords ts) 0)
+    (λ w mw. let a = in-table ts v w mw in let b = length-replicate {A = ℕ} (tableWords ts) 0 in omega arith)
     ∙ ap₂ (λ (l : List ℕ) (k : ℕ). l ++ replicate (n - k) 0) (filled ts v) (sym len)
   where
     sum : tableWords ts + (n - tableWords ts) ≡ n
@@ -144,7 +157,8 @@ table-padded ts v n h =
 
 pub roots-over : (ts : List Token) (m rs : List ℕ) → Based ts m → Roots (nodes ts) rs → 65536 ≤ length rs
     → map (rootWord (see m) (nodeCount ts)) (take 65536 rs) ++ drop 65536 rs ≡ over (rootList ts) rs
-roots-over ts m rs D R h = ap₂ (λ (l : List ℕ) (k : ℕ). l ++ drop k rs) (ext-getD 0 (map f (take 65536 rs)) (rootList ts) (len1 ∙ sym len2) cell) (sym len2)
+roots-over ts m rs D R h = ap₂ (λ (l : List ℕ) (k : ℕ). l ++ drop k rs)
+    (ext-getD 0 (map f (take 65536 rs)) (rootList ts) (len1 ∙ sym len2) cell) (sym len2)
   where
     ps : List (List ℕ)
     ps = nodes ts
@@ -165,10 +179,12 @@ roots-over ts m rs D R h = ap₂ (λ (l : List ℕ) (k : ℕ). l ++ drop k rs) (
         → f (num ps (a ∷ b ∷ [])) ≡ cond (has ps (a ∷ b ∷ [])) (wordOf ts (a ∷ b ∷ []) zero) zero
     at a b (inl mp) =
         ap f (num-in mp)
-        ∙ sym (root-at (see m) (nodeCount ts) (number ps (a ∷ b ∷ [])) (nodeWord (see m (number ps (a ∷ b ∷ []))) 0) (see m (number ps (a ∷ b ∷ []))) (λ z. let k = number-pos ps (a ∷ b ∷ []) in omega arith)
+        ∙ sym (root-at (see m) (nodeCount ts) (number ps (a ∷ b ∷ [])) (nodeWord (see m (number ps (a ∷ b ∷ []))) 0)
+        (see m (number ps (a ∷ b ∷ []))) (λ z. let k = number-pos ps (a ∷ b ∷ []) in omega arith)
         (unfold nodeCount in let k = number-lt mp in omega arith) refl refl)
         ∙ word-is ts m D (a ∷ b ∷ []) 0 mp ∙ sym (yes-case _ _ (mem-has mp))
-    at a b (inr np) = ap f (num-out ps (a ∷ b ∷ []) np) ∙ sym none-is ∙ sym (no-case _ _ (Rattle.laws.specs.Tests.no-true _ (λ e. np (has-mem ps (a ∷ b ∷ []) e))))
+    at a b (inr np) = ap f (num-out ps (a ∷ b ∷ []) np) ∙ sym none-is
+        ∙ sym (no-case _ _ (Rattle.laws.specs.Tests.no-true _ (λ e. np (has-mem ps (a ∷ b ∷ []) e))))
 
     cell : (i : ℕ) → i < length (map f (take 65536 rs)) → getD (map f (take 65536 rs)) i 0 ≡ getD (rootList ts) i 0
     cell i hi =
@@ -180,5 +196,6 @@ roots-over ts m rs D R h = ap₂ (λ (l : List ℕ) (k : ℕ). l ++ drop k rs) (
         ∙ ap f (getD-take 65536 rs i 0 lt ∙ ap (λ (z : ℕ). getD rs z 0) (sym q) ∙ R (i / 256) (i % 256) a b)
         ∙ at (i / 256) (i % 256) (member ps (i / 256 ∷ i % 256 ∷ [])) ∙ sym (root-cell i lt)
       where
-        root-cell : (i : ℕ) → i < 65536 → getD (rootList ts) i 0 ≡ cond (has ps (i / 256 ∷ i % 256 ∷ [])) (wordOf ts (i / 256 ∷ i % 256 ∷ []) zero) zero
+        root-cell : (i : ℕ) → i < 65536
+            → getD (rootList ts) i 0 ≡ cond (has ps (i / 256 ∷ i % 256 ∷ [])) (wordOf ts (i / 256 ∷ i % 256 ∷ []) zero) zero
         root-cell i lt = unfold rootList rootAt in up-at (rootAt ts) 65536 0 i 0 lt ∙ (let z : 0 + i ≡ i = omega arith in ap (rootAt ts) z)

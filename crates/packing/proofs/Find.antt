@@ -25,7 +25,8 @@ use Rattle.packing.proofs.Bitwise.{not-bit, tz-below, tz-at, tz-lt}
 
 -- a label moves a word within its block of four
 pub in-four : (i d n : ℕ) → d < 256 → i / 4 * 4 + 4 ≤ n → bitXor i (d / 64) < n
-in-four i d n h k = let e = xor-shr i (d / 64) 2 in let z : d / 64 / 4 ≡ 0 = omega arith in let q = ap (bitXor (i / 4)) z ∙ lib.Bits.xor-zero-r (i / 4) in omega arith
+in-four i d n h k = let e = xor-shr i (d / 64) 2 in let z : d / 64 / 4 ≡ 0 = omega arith in let q = ap (bitXor (i / 4)) z
+    ∙ lib.Bits.xor-zero-r (i / 4) in omega arith
 
 pub moved-bit : (M : List ℕ) (i j d : ℕ) → j < 64 → eqb (bit (movedWord M i d) j) 1 ≡ marked M (bitXor (i * 64 + j) d)
 unfolding movedWord marked
@@ -68,7 +69,8 @@ module _ (used : List ℕ) (l1 : ℕ) (ls : List ℕ) (i : ℕ) where
   -- the first label falls on the slot itself
   pub clash-first : l1 ≡ getD ls 0 0 → 1 ≤ length ls → ClashWord used l1 (take 1 ls) i (getD used i 0)
   unfolding clashAt any marked
-  clash-first e h j hj = sym (ap (any f) (take-suc ls 0 0 h) ∙ or-false (f (getD ls 0 0)) ∙ ap (λ (z : ℕ). marked used (bitXor (bitXor (i * 64 + j) l1) z)) (sym e) ∙ ap (marked used) back ∙ at)
+  clash-first e h j hj = sym (ap (any f) (take-suc ls 0 0 h) ∙ or-false (f (getD ls 0 0))
+      ∙ ap (λ (z : ℕ). marked used (bitXor (bitXor (i * 64 + j) l1) z)) (sym e) ∙ ap (marked used) back ∙ at)
     where
       f : ℕ → Bool
       f l = marked used (bitXor (bitXor (i * 64 + j) l1) l)
@@ -77,15 +79,18 @@ module _ (used : List ℕ) (l1 : ℕ) (ls : List ℕ) (i : ℕ) where
       back = xor-comm (bitXor (i * 64 + j) l1) l1 ∙ ap (bitXor l1) (xor-comm (i * 64 + j) l1) ∙ xor-cancel l1 (i * 64 + j)
 
       at : marked used (i * 64 + j) ≡ eqb (bit (getD used i 0) j) 1
-      at = let x : (i * 64 + j) / 64 ≡ i = omega arith in let y : (i * 64 + j) % 64 ≡ j = omega arith in ap₂ (λ (x y : ℕ). eqb (bit (getD used x 0) y) 1) x y
+      at = let x : (i * 64 + j) / 64 ≡ i = omega arith in let y : (i * 64 + j) % 64 ≡ j = omega arith in
+          ap₂ (λ (x y : ℕ). eqb (bit (getD used x 0) y) 1) x y
 
   -- one label more
-  pub clash-more : (k bad r : ℕ) → k < length ls → ClashWord used l1 (take k ls) i bad → r ≡ movedWord used i (bitXor l1 (getD ls k 0)) → ClashWord used l1 (take (k + 1) ls) i (bitOr bad r)
+  pub clash-more : (k bad r : ℕ) → k < length ls → ClashWord used l1 (take k ls) i bad → r ≡ movedWord used i (bitXor l1 (getD ls k 0))
+      → ClashWord used l1 (take (k + 1) ls) i (bitOr bad r)
   unfolding clashAt any
   clash-more k bad r h v e j hj =
       let q : k + 1 ≡ suc k = omega arith in
       or-test bad r j
-      ∙ ap₂ _||_ (v j hj) (ap (λ (z : ℕ). eqb (bit z j) 1) e ∙ moved-bit used i j (bitXor l1 (getD ls k 0)) hj ∙ ap (marked used) (sym (xor-assoc (i * 64 + j) l1 (getD ls k 0))))
+      ∙ ap₂ _||_ (v j hj) (ap (λ (z : ℕ). eqb (bit z j) 1) e ∙ moved-bit used i j (bitXor l1 (getD ls k 0)) hj
+      ∙ ap (marked used) (sym (xor-assoc (i * 64 + j) l1 (getD ls k 0))))
       ∙ sym (ap (any (λ l. marked used (bitXor (bitXor (i * 64 + j) l1) l))) (ap (λ (z : ℕ). take z ls) q ∙ take-suc ls k 0 h)
       ∙ any-append (λ l. marked used (bitXor (bitXor (i * 64 + j) l1) l)) (take k ls) (getD ls k 0 ∷ [])
       ∙ ap (λ (c : Bool). any (λ l. marked used (bitXor (bitXor (i * 64 + j) l1) l)) (take k ls) || c) (or-false _))
@@ -97,15 +102,19 @@ module _ (used : List ℕ) (l1 : ℕ) (ls : List ℕ) (i : ℕ) where
     clash-all k bad e v j hj =
         let one = ap (λ (z : ℕ). eqb (bit z j) 1) e ∙ bit-of-ones j hj in
         let yes : any (λ l. marked used (bitXor (bitXor (i * 64 + j) l1) l)) (take k ls) ≡ true = sym (v j hj) ∙ one in
-        one ∙ sym (or-r (marked bases (bitXor (i * 64 + j) (getD ls 0 0))) _ (subst (λ (z : ℕ). any (λ l. marked used (bitXor (bitXor (i * 64 + j) z) l)) ls ≡ true) is
-        (ap (any (λ l. marked used (bitXor (bitXor (i * 64 + j) l1) l))) (sym (lib.ListN.take-append-drop k ls)) ∙ any-append (λ l. marked used (bitXor (bitXor (i * 64 + j) l1) l)) (take k ls) (drop k ls) ∙ or-l _ _ yes)))
+        one ∙ sym (or-r (marked bases (bitXor (i * 64 + j) (getD ls 0 0))) _
+        (subst (λ (z : ℕ). any (λ l. marked used (bitXor (bitXor (i * 64 + j) z) l)) ls ≡ true) is
+        (ap (any (λ l. marked used (bitXor (bitXor (i * 64 + j) l1) l))) (sym (lib.ListN.take-append-drop k ls))
+        ∙ any-append (λ l. marked used (bitXor (bitXor (i * 64 + j) l1) l)) (take k ls) (drop k ls) ∙ or-l _ _ yes)))
 
     -- the bases come last
-    pub clash-base : (k bad r : ℕ) → length ls ≤ k → ClashWord used l1 (take k ls) i bad → r ≡ movedWord bases i l1 → BadWord used bases ls i (bitOr bad r)
+    pub clash-base : (k bad r : ℕ) → length ls ≤ k → ClashWord used l1 (take k ls) i bad → r ≡ movedWord bases i l1
+        → BadWord used bases ls i (bitOr bad r)
     unfolding badAt
     clash-base k bad r h v e j hj =
         or-test bad r j
-        ∙ ap₂ _||_ (v j hj ∙ ap (λ (l : List ℕ). clashAt used l1 l (i * 64 + j)) (take-all k ls h)) (ap (λ (z : ℕ). eqb (bit z j) 1) e ∙ moved-bit bases i j l1 hj)
+        ∙ ap₂ _||_ (v j hj ∙ ap (λ (l : List ℕ). clashAt used l1 l (i * 64 + j)) (take-all k ls h))
+        (ap (λ (z : ℕ). eqb (bit z j) 1) e ∙ moved-bit bases i j l1 hj)
         ∙ or-comm (clashAt used l1 ls (i * 64 + j)) (marked bases (bitXor (i * 64 + j) l1))
         ∙ ap (λ (z : ℕ). marked bases (bitXor (i * 64 + j) z) || clashAt used z ls (i * 64 + j)) is
 
@@ -118,8 +127,10 @@ module _ (used bases ls : List ℕ) (i bad : ℕ) (is : BadWord used bases ls i 
   clear-good : (j : ℕ) → j < 64 → bit (2 ^ 64 - 1 - bad) j ≡ 1 → badAt used bases ls (i * 64 + j) ≡ false
   clear-good j h e = let n = not-bit 64 j bad fits h in sym (is j h) ∙ ne-eqb (bit bad j) 1 (λ z. omega arith)
 
-  within : (s : ℕ) → i * 64 ≤ s → s < i * 64 + 64 → ((j : ℕ) → j < 64 → badAt used bases ls (i * 64 + j) ≡ true) → badAt used bases ls s ≡ true
-  within s a b h = let q : i * 64 + (s - i * 64) ≡ s = omega arith in subst (λ (z : ℕ). badAt used bases ls z ≡ true) q (h (s - i * 64) (omega arith))
+  within : (s : ℕ) → i * 64 ≤ s → s < i * 64 + 64 → ((j : ℕ) → j < 64 → badAt used bases ls (i * 64 + j) ≡ true)
+      → badAt used bases ls s ≡ true
+  within s a b h = let q : i * 64 + (s - i * 64) ≡ s = omega arith in
+      subst (λ (z : ℕ). badAt used bases ls z ≡ true) q (h (s - i * 64) (omega arith))
 
   -- no slot of the word is free
   pub all-bad : 2 ^ 64 - 1 - bad ≡ 0 → (s : ℕ) → i * 64 ≤ s → s < (i + 1) * 64 → badAt used bases ls s ≡ true
@@ -127,7 +138,8 @@ module _ (used bases ls : List ℕ) (i bad : ℕ) (is : BadWord used bases ls i 
 
   -- the lowest set bit of the complement is the smallest free slot
   pub hit : (from n t : ℕ) → (2 ^ 64 - 1 - bad ≡ 0 → ⊥) → t ≡ trailingZeros 64 (2 ^ 64 - 1 - bad) → from ≤ i → i < from + n
-      → ((s : ℕ) → from * 64 ≤ s → s < i * 64 → badAt used bases ls s ≡ true) → i * 64 + t ≡ firstFrom (λ s. not (badAt used bases ls s)) (n * 64) (from * 64)
+      → ((s : ℕ) → from * 64 ≤ s → s < i * 64 → badAt used bases ls s ≡ true)
+      → i * 64 + t ≡ firstFrom (λ s. not (badAt used bases ls s)) (n * 64) (from * 64)
   hit from n t z e a b before =
       sym (first-is (λ s. not (badAt used bases ls s)) (n * 64) (from * 64) (i * 64 + t) (omega arith) (omega (arith, lt))
       (ap not (clear-good t lt (ap (bit (2 ^ 64 - 1 - bad)) e ∙ tz-at 64 (2 ^ 64 - 1 - bad) lt')))
@@ -145,10 +157,12 @@ module _ (used bases ls : List ℕ) (i bad : ℕ) (is : BadWord used bases ls i 
           let k = ltb-false s (i * 64) y in
           let w : i * 64 + (s - i * 64) ≡ s = omega arith in
           subst (λ (x : ℕ). badAt used bases ls x ≡ true) w
-          (set-bad (s - i * 64) (omega (arith, lt)) (tz-below 64 (2 ^ 64 - 1 - bad) (s - i * 64) (subst (λ (x : ℕ). s - i * 64 < x) e (omega arith))))
+          (set-bad (s - i * 64) (omega (arith, lt))
+          (tz-below 64 (2 ^ 64 - 1 - bad) (s - i * 64) (subst (λ (x : ℕ). s - i * 64 < x) e (omega arith))))
 
 -- what holds below i * 64 and in the next word holds below (i + 1) * 64
-pub both : (f : ℕ → Bool) (from i : ℕ) (c : Bool) → ((s : ℕ) → from * 64 ≤ s → s < i * 64 → f s ≡ c) → ((s : ℕ) → i * 64 ≤ s → s < (i + 1) * 64 → f s ≡ c)
+pub both : (f : ℕ → Bool) (from i : ℕ) (c : Bool) → ((s : ℕ) → from * 64 ≤ s → s < i * 64 → f s ≡ c)
+    → ((s : ℕ) → i * 64 ≤ s → s < (i + 1) * 64 → f s ≡ c)
     → (s : ℕ) → from * 64 ≤ s → s < (i + 1) * 64 → f s ≡ c
 both f from i c h k s a b = go (either (ltb s (i * 64)))
   where
@@ -173,7 +187,8 @@ pub length-mark : (M : List ℕ) (s : ℕ) → length (mark M s) ≡ length M
 unfolding mark
 length-mark M s = simp length-set
 
-pub marks-on : (base : ℕ) (M N : List ℕ) (ls : List ℕ) (k : ℕ) → k < length ls → N ≡ mark M (bitXor base (getD ls k 0)) → markAll base M (drop k ls) ≡ markAll base N (drop (k + 1) ls)
+pub marks-on : (base : ℕ) (M N : List ℕ) (ls : List ℕ) (k : ℕ) → k < length ls → N ≡ mark M (bitXor base (getD ls k 0))
+    → markAll base M (drop k ls) ≡ markAll base N (drop (k + 1) ls)
 unfolding markAll
 marks-on base M N ls k h e =
     let q : suc k ≡ k + 1 = omega arith in

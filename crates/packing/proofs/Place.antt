@@ -46,7 +46,8 @@ unfolding firstFrom
 passes f zero s h = absurd (omega arith)
 passes f (suc n) s h = go (f s) refl h (λ k. passes f n (suc s) k)
   where
-    go : (c : Bool) → f s ≡ c → cond c s (firstFrom f n (suc s)) < s + suc n → (firstFrom f n (suc s) < suc s + n → f (firstFrom f n (suc s)) ≡ true) → f (cond c s (firstFrom f n (suc s))) ≡ true
+    go : (c : Bool) → f s ≡ c → cond c s (firstFrom f n (suc s)) < s + suc n
+        → (firstFrom f n (suc s) < suc s + n → f (firstFrom f n (suc s)) ≡ true) → f (cond c s (firstFrom f n (suc s))) ≡ true
     go true e h r = e
     go false e h r = r (omega arith)
 
@@ -59,15 +60,19 @@ from-top f (suc n) s = go (f s) (from-top f n (suc s))
     go true h = omega arith
     go false h = omega arith
 
-mark-all-is : (base : ℕ) (ls M : List ℕ) (t : ℕ) → ((l : ℕ) → Mem l ls → l < 256) → base / 256 * 4 + 4 ≤ length M → marked (markAll base M ls) t ≡ (marked M t || any (λ l. eqb t (bitXor base l)) ls)
+mark-all-is : (base : ℕ) (ls M : List ℕ) (t : ℕ) → ((l : ℕ) → Mem l ls → l < 256) → base / 256 * 4 + 4 ≤ length M
+    → marked (markAll base M ls) t ≡ (marked M t || any (λ l. eqb t (bitXor base l)) ls)
 unfolding markAll any
 mark-all-is base [] M t sm h = sym (or-false (marked M t))
 mark-all-is base (l ∷ ls) M t sm h =
-    mark-all-is base ls (mark M (bitXor base l)) t (λ k m. sm k (there m)) (subst (λ (n : ℕ). base / 256 * 4 + 4 ≤ n) (sym (length-mark M (bitXor base l))) h)
-    ∙ ap (λ (c : Bool). c || any (λ k. eqb t (bitXor base k)) ls) (mark-is M (bitXor base l) t (slot-in base l (length M) (sm l (here refl)) h))
+    mark-all-is base ls (mark M (bitXor base l)) t (λ k m. sm k (there m))
+    (subst (λ (n : ℕ). base / 256 * 4 + 4 ≤ n) (sym (length-mark M (bitXor base l))) h)
+    ∙ ap (λ (c : Bool). c || any (λ k. eqb t (bitXor base k)) ls)
+    (mark-is M (bitXor base l) t (slot-in base l (length M) (sm l (here refl)) h))
     ∙ or-assoc (marked M t) (eqb t (bitXor base l)) (any (λ k. eqb t (bitXor base k)) ls)
 
-module _ (L : List ℕ → List ℕ) (small : ByteLabels L) (xs : List Put) (p : List ℕ) (U B : List ℕ) (end : ℕ) (K : MarksOk L xs U B end) (four : end % 4 ≡ 0)
+module _ (L : List ℕ → List ℕ) (small : ByteLabels L) (xs : List Put) (p : List ℕ) (U B : List ℕ) (end : ℕ) (K : MarksOk L xs U B end)
+    (four : end % 4 ≡ 0)
     (lu : end ≤ length U) (lb : end ≤ length B) (from : ℕ) (hf : from ≤ end) (f4 : 4 ≤ from) where
   abbrev ls : List ℕ
   ls = L p
@@ -96,7 +101,8 @@ module _ (L : List ℕ → List ℕ) (small : ByteLabels L) (xs : List Put) (p :
   unfolding badAt clashAt free
   free-is s h =
       let hb = xor-below s l1 end l1-small four h in
-      ap not (ap₂ _||_ (K .bases (bitXor s l1) hb) (any-same _ _ ls (λ l m. K .slots (bitXor (bitXor s l1) l) (xor-below (bitXor s l1) l end (small p l m) four hb))))
+      ap not (ap₂ _||_ (K .bases (bitXor s l1) hb)
+      (any-same _ _ ls (λ l m. K .slots (bitXor (bitXor s l1) l) (xor-below (bitXor s l1) l end (small p l m) four hb))))
       ∙ not-both (used xs (bitXor s l1)) (any (λ l. taken L xs (bitXor (bitXor s l1) l)) ls)
       ∙ ap (λ (z : ℕ). not (used xs (bitXor s z)) && not (any (λ l. taken L xs (bitXor (bitXor s z) l)) ls)) (sym (first-get ls))
 
@@ -151,11 +157,13 @@ module _ (L : List ℕ → List ℕ) (small : ByteLabels L) (xs : List Put) (p :
         hit : F (256 + (words xs - 256)) ≡ true
         hit = let w = words-ge in let q : 256 + (words xs - 256) ≡ words xs = omega arith in ap F q ∙ past
 
-        go : (leb (end * 64) (firstFrom F (words xs - 256) 256) ≡ true) ⊎ (leb (end * 64) (firstFrom F (words xs - 256) 256) ≡ false) → end * 64 ≤ firstFrom F (words xs - 256) 256
+        go : (leb (end * 64) (firstFrom F (words xs - 256) 256) ≡ true) ⊎ (leb (end * 64) (firstFrom F (words xs - 256) 256) ≡ false)
+            → end * 64 ≤ firstFrom F (words xs - 256) 256
         go (inl e) = leb-true (end * 64) (firstFrom F (words xs - 256) 256) e
         go (inr e) =
             let q = leb-false (end * 64) (firstFrom F (words xs - 256) 256) e in
-            absurd (clash (first-passes F (words xs - 256) 256 hit) (before (firstFrom F (words xs - 256) 256) (from-le F (words xs - 256) 256) (omega arith) q))
+            absurd (clash (first-passes F (words xs - 256) 256 hit)
+            (before (firstFrom F (words xs - 256) 256) (from-le F (words xs - 256) 256) (omega arith) q))
 
     pub chosen : r < end * 64 → choose L xs ls ≡ bitXor r l1
     unfolding choose
@@ -164,7 +172,8 @@ module _ (L : List ℕ → List ℕ) (small : ByteLabels L) (xs : List Put) (p :
     pub marks-then : (b : ℕ) → r < end * 64 → b ≡ bitXor r l1 → MarksOk L (put L xs p) (markAll b U ls) (mark B b) end
     unfolding put taken used byteIn any
     marks-then b h e = record {
-      slots = λ s hs. mark-all-is b ls U s (λ l m. small p l m) room ∙ or-comm (marked U s) (any (λ l. eqb s (bitXor b l)) ls) ∙ ap₂ _||_ (sym (any-map (eqb s) (bitXor b) ls) ∙ ap (λ (z : ℕ). any (eqb s) (map (bitXor z) ls)) base) (K .slots s hs);
+      slots = λ s hs. mark-all-is b ls U s (λ l m. small p l m) room ∙ or-comm (marked U s) (any (λ l. eqb s (bitXor b l)) ls)
+          ∙ ap₂ _||_ (sym (any-map (eqb s) (bitXor b) ls) ∙ ap (λ (z : ℕ). any (eqb s) (map (bitXor z) ls)) base) (K .slots s hs);
       bases = λ t ht. mark-is B b t low ∙ or-comm (marked B t) (eqb t b) ∙ ap₂ _||_ (ap (eqb t) base) (K .bases t ht);
     }
       where

@@ -51,22 +51,27 @@ module _ (C ls : List ℕ) (from end : ℕ) where
   module _ (one : length ls ≡ 1) (k : ℕ) (is : k ≡ getD C (getD ls 0 0) 0) where
     pub start-low : k ≤ from → from ≡ startOn C ls from end
     unfolding startOn
-    start-low h = sym (yes-case _ _ (eq-eqb (length ls) 1 one) ∙ no-case _ _ (le-ltb from (getD C (getD ls 0 0) 0) (subst (λ (z : ℕ). z ≤ from) is h)))
+    start-low h = sym (yes-case _ _ (eq-eqb (length ls) 1 one)
+        ∙ no-case _ _ (le-ltb from (getD C (getD ls 0 0) 0) (subst (λ (z : ℕ). z ≤ from) is h)))
 
     pub start-out : from < k → end < k → from ≡ startOn C ls from end
     unfolding startOn
     start-out h g =
-        sym (yes-case _ _ (eq-eqb (length ls) 1 one) ∙ yes-case _ _ (lt-ltb from (getD C (getD ls 0 0) 0) (subst (λ (z : ℕ). from < z) is h))
+        sym (yes-case _ _ (eq-eqb (length ls) 1 one)
+        ∙ yes-case _ _ (lt-ltb from (getD C (getD ls 0 0) 0) (subst (λ (z : ℕ). from < z) is h))
         ∙ no-case _ _ (lt-leb (getD C (getD ls 0 0) 0) end (subst (λ (z : ℕ). end < z) is g)))
 
     pub start-far : from < k → k ≤ end → k ≡ startOn C ls from end
     unfolding startOn
     start-far h g =
-        is ∙ sym (yes-case _ _ (eq-eqb (length ls) 1 one) ∙ yes-case _ _ (lt-ltb from (getD C (getD ls 0 0) 0) (subst (λ (z : ℕ). from < z) is h))
+        is ∙ sym (yes-case _ _ (eq-eqb (length ls) 1 one)
+        ∙ yes-case _ _ (lt-ltb from (getD C (getD ls 0 0) 0) (subst (λ (z : ℕ). from < z) is h))
         ∙ yes-case _ _ (le-leb (getD C (getD ls 0 0) 0) end (subst (λ (z : ℕ). z ≤ end) is g)))
 
 pub start-cases : (C ls : List ℕ) (from end : ℕ)
-    → (startOn C ls from end ≡ from) ⊎ ((length ls ≡ 1) × (startOn C ls from end ≡ getD C (getD ls 0 0) 0) × (from < getD C (getD ls 0 0) 0) × (getD C (getD ls 0 0) 0 ≤ end))
+    → (startOn C ls from end ≡ from)
+    ⊎ ((length ls ≡ 1) × (startOn C ls from end ≡ getD C (getD ls 0 0) 0) × (from < getD C (getD ls 0 0) 0)
+    × (getD C (getD ls 0 0) 0 ≤ end))
 unfolding startOn
 start-cases C ls from end = go (eqb (length ls) 1) refl (ltb from k) refl (leb k end) refl
   where
@@ -74,7 +79,8 @@ start-cases C ls from end = go (eqb (length ls) 1) refl (ltb from k) refl (leb k
     k = getD C (getD ls 0 0) 0
 
     go : (a : Bool) → eqb (length ls) 1 ≡ a → (b : Bool) → ltb from k ≡ b → (d : Bool) → leb k end ≡ d
-        → (cond a (cond b (cond d k from) from) from ≡ from) ⊎ ((length ls ≡ 1) × (cond a (cond b (cond d k from) from) from ≡ k) × (from < k) × (k ≤ end))
+        → (cond a (cond b (cond d k from) from) from ≡ from)
+        ⊎ ((length ls ≡ 1) × (cond a (cond b (cond d k from) from) from ≡ k) × (from < k) × (k ≤ end))
     go false ea b eb d ed = inl refl
     go true ea false eb d ed = inl refl
     go true ea true eb false ed = inl refl
@@ -83,7 +89,9 @@ start-cases C ls from end = go (eqb (length ls) 1) refl (ltb from k) refl (leb k
 pub start-in : (C ls : List ℕ) (from end : ℕ) → from ≤ end → (from ≤ startOn C ls from end) × (startOn C ls from end ≤ end)
 start-in C ls from end h = go (start-cases C ls from end)
   where
-    go : (startOn C ls from end ≡ from) ⊎ ((length ls ≡ 1) × (startOn C ls from end ≡ getD C (getD ls 0 0) 0) × (from < getD C (getD ls 0 0) 0) × (getD C (getD ls 0 0) 0 ≤ end))
+    go : (startOn C ls from end ≡ from)
+        ⊎ ((length ls ≡ 1) × (startOn C ls from end ≡ getD C (getD ls 0 0) 0) × (from < getD C (getD ls 0 0) 0)
+        × (getD C (getD ls 0 0) 0 ≤ end))
         → (from ≤ startOn C ls from end) × (startOn C ls from end ≤ end)
     go (inl e) = (omega arith, omega arith)
     go (inr e) = let a = e .1 in let b = e .2 in let d = e .3 in (omega arith, omega arith)
@@ -100,13 +108,15 @@ module _ (C ls : List ℕ) (b : ℕ) where
 
 -- ---- the first word that is not full
 
-module _ (U : List ℕ) (from end i : ℕ) (a : from ≤ i) (b : i ≤ end) (full : (t : ℕ) → from ≤ t → t < i → getD U t 0 ≡ 0xffffffffffffffff) where
+module _ (U : List ℕ) (from end i : ℕ) (a : from ≤ i) (b : i ≤ end)
+    (full : (t : ℕ) → from ≤ t → t < i → getD U t 0 ≡ 0xffffffffffffffff) where
   shut : (t : ℕ) → from ≤ t → t < i → not (eqb (getD U t 0) 0xffffffffffffffff) ≡ false
   shut t h k = ap not (eq-eqb (getD U t 0) 0xffffffffffffffff (full t h k))
 
   pub open-at : (getD U i 0 ≡ 0xffffffffffffffff → ⊥) → i ≡ openOn U from end
   unfolding openOn
-  open-at h = sym (first-is (λ i. not (eqb (getD U i 0) 0xffffffffffffffff)) (end - from) from i a (omega arith) (ap not (ne-eqb (getD U i 0) 0xffffffffffffffff h)) shut)
+  open-at h = sym (first-is (λ i. not (eqb (getD U i 0) 0xffffffffffffffff)) (end - from) from i a (omega arith)
+      (ap not (ne-eqb (getD U i 0) 0xffffffffffffffff h)) shut)
 
   pub open-on : getD U i 0 ≡ 0xffffffffffffffff → (t : ℕ) → from ≤ t → t < i + 1 → getD U t 0 ≡ 0xffffffffffffffff
   open-on e t h k = go (eqb t i) refl

@@ -43,7 +43,8 @@ module _ (M : ℕ → Node) (made base : ℕ) where
   children-out zero c h = refl
   children-out (suc f) c h = go (eqb c 0)
     where
-      go : (d : Bool) → cond d [] (cond (leb made c) [] (record { at = bitXor base (M c .label); val = nodeWord (M c) (M c .label) } ∷ childWrites M made base f (M c .next))) ≡ []
+      go : (d : Bool) → cond d [] (cond (leb made c) []
+          (record { at = bitXor base (M c .label); val = nodeWord (M c) (M c .label) } ∷ childWrites M made base f (M c .next))) ≡ []
       go true = refl
       go false = yes-case _ _ (le-leb made c h)
 
@@ -53,25 +54,32 @@ module _ (M : ℕ → Node) (made base : ℕ) where
   children-done (suc f) c h = absurd (omega arith)
 
   pub children-on : (f c : ℕ) → (c ≡ 0 → ⊥) → c < made
-      → childWrites M made base (suc f) c ≡ record { at = bitXor base (M c .label); val = nodeWord (M c) (M c .label) } ∷ childWrites M made base f (M c .next)
+      → childWrites M made base (suc f) c ≡ record {
+        at = bitXor base (M c .label);
+        val = nodeWord (M c) (M c .label);
+      } ∷ childWrites M made base f (M c .next)
   unfolding childWrites
   children-on f c z h = no-case _ _ (ne-eqb c 0 z) ∙ no-case _ _ (lt-leb made c h)
 
   -- one turn: node n is written
-  pub children-turn : (t t' : List ℕ) (f c l w : ℕ) (n : Node) → 0 < f → (c ≡ 0 → ⊥) → c < made → n ≡ M c → l ≡ n .label → w ≡ nodeWord n (n .label) → t' ≡ set t (bitXor base l) w
+  pub children-turn : (t t' : List ℕ) (f c l w : ℕ) (n : Node) → 0 < f → (c ≡ 0 → ⊥) → c < made → n ≡ M c → l ≡ n .label
+      → w ≡ nodeWord n (n .label) → t' ≡ set t (bitXor base l) w
       → fold write t (childWrites M made base f c) ≡ fold write t' (childWrites M made base (f - 1) (n .next))
   unfolding fold write
   children-turn t t' zero c l w n hf z h en el ew et = absurd (omega arith)
   children-turn t t' (suc f) c l w n hf z h en el ew et =
       let q : suc f - 1 ≡ f = omega arith in
       ap (fold write t) (children-on f c z h)
-      ∙ ap (λ (x : Node). fold write (set t (bitXor base (x .label)) (nodeWord x (x .label))) (childWrites M made base f (x .next))) (sym en)
-      ∙ ap₂ (λ (x : List ℕ) (y : ℕ). fold write x (childWrites M made base y (n .next))) (ap₂ (λ (x y : ℕ). set t (bitXor base x) y) (sym el) (sym ew) ∙ sym et) (sym q)
+      ∙ ap (λ (x : Node). fold write (set t (bitXor base (x .label)) (nodeWord x (x .label))) (childWrites M made base f (x .next)))
+      (sym en)
+      ∙ ap₂ (λ (x : List ℕ) (y : ℕ). fold write x (childWrites M made base y (n .next)))
+      (ap₂ (λ (x y : ℕ). set t (bitXor base x) y) (sym el) (sym ew) ∙ sym et) (sym q)
 
 -- ---- all nodes
 
 module _ (M : ℕ → Node) (made : ℕ) where
-  pub nodes-turn : (t t' : List ℕ) (i b : ℕ) (n : Node) → i < made → n ≡ M i → b ≡ n .tail → t' ≡ fold write t (childWrites M made b 256 (n .head))
+  pub nodes-turn : (t t' : List ℕ) (i b : ℕ) (n : Node) → i < made → n ≡ M i → b ≡ n .tail
+      → t' ≡ fold write t (childWrites M made b 256 (n .head))
       → fold write t (nodeWrites M made (made - i) i) ≡ fold write t' (nodeWrites M made (made - (i + 1)) (i + 1))
   unfolding nodeWrites
   nodes-turn t t' i b n h en eb et =
@@ -79,14 +87,16 @@ module _ (M : ℕ → Node) (made : ℕ) where
       let s : suc i ≡ i + 1 = omega arith in
       ap (λ (k : ℕ). fold write t (nodeWrites M made k i)) q
       ∙ fold-append write t (childWrites M made (M i .tail) 256 (M i .head)) (nodeWrites M made (made - (i + 1)) (suc i))
-      ∙ ap (λ (x : Node). fold write (fold write t (childWrites M made (x .tail) 256 (x .head))) (nodeWrites M made (made - (i + 1)) (suc i))) (sym en)
-      ∙ ap₂ (λ (x : List ℕ) (y : ℕ). fold write x (nodeWrites M made (made - (i + 1)) y)) (ap (λ (x : ℕ). fold write t (childWrites M made x 256 (n .head))) (sym eb) ∙ sym et) s
+      ∙ ap (λ (x : Node). fold write (fold write t (childWrites M made (x .tail) 256 (x .head)))
+      (nodeWrites M made (made - (i + 1)) (suc i))) (sym en)
+      ∙ ap₂ (λ (x : List ℕ) (y : ℕ). fold write x (nodeWrites M made (made - (i + 1)) y))
+      (ap (λ (x : ℕ). fold write t (childWrites M made x 256 (n .head))) (sym eb) ∙ sym et) s
 
   pub nodes-done : (t : List ℕ) (i : ℕ) → made ≤ i → fold write t (nodeWrites M made (made - i) i) ≡ t
   unfolding nodeWrites fold
   nodes-done t i h = let q : made - i ≡ 0 = omega arith in ap (λ (k : ℕ). fold write t (nodeWrites M made k i)) q
 
--- ---- roots
+  -- ---- roots
 
   pub root-none : (r : ℕ) → r ≡ 0 → 0 ≡ rootWord M made r
   unfolding rootWord
@@ -110,9 +120,11 @@ module _ (f : ℕ → ℕ) (r : List ℕ) (i : ℕ) (h : i < length r) where
   front = length-map f (take i r) ∙ length-take-le i r (omega arith)
 
   pub cell-old : (t : List ℕ) → t ≡ map f (take i r) ++ drop i r → getD t i 0 ≡ getD r i 0
-  cell-old t e = ap (λ (l : List ℕ). getD l i 0) (e ∙ ap (λ (l : List ℕ). map f (take i r) ++ l) (drop-cons r i 0 h)) ∙ getD-at (map f (take i r)) (getD r i 0) (drop (suc i) r) 0 i front
+  cell-old t e = ap (λ (l : List ℕ). getD l i 0) (e ∙ ap (λ (l : List ℕ). map f (take i r) ++ l) (drop-cons r i 0 h))
+      ∙ getD-at (map f (take i r)) (getD r i 0) (drop (suc i) r) 0 i front
 
-  pub cell-new : (t : List ℕ) (v : ℕ) → t ≡ map f (take i r) ++ drop i r → v ≡ f (getD r i 0) → set t i v ≡ map f (take (i + 1) r) ++ drop (i + 1) r
+  pub cell-new : (t : List ℕ) (v : ℕ) → t ≡ map f (take i r) ++ drop i r → v ≡ f (getD r i 0)
+      → set t i v ≡ map f (take (i + 1) r) ++ drop (i + 1) r
   cell-new t v e ev =
       let s : i + 1 ≡ suc i = omega arith in
       ap (λ (l : List ℕ). set l i v) (e ∙ ap (λ (l : List ℕ). map f (take i r) ++ l) (drop-cons r i 0 h))
@@ -123,7 +135,9 @@ module _ (f : ℕ → ℕ) (r : List ℕ) (i : ℕ) (h : i < length r) where
       ∙ mathlib.Core.List.append-assoc (map f (take i r)) (f (getD r i 0) ∷ []) (drop (suc i) r))
 
 -- every cell is replaced
-pub filled-all : (d : List ℕ) (i : ℕ) (t : List ℕ) → i ≤ length d → length d ≤ i → t ≡ replicate i 0 ++ drop i d → t ≡ replicate (length d) 0
+pub filled-all : (d : List ℕ) (i : ℕ) (t : List ℕ) → i ≤ length d → length d ≤ i → t ≡ replicate i 0 ++ drop i d
+    → t ≡ replicate (length d) 0
 filled-all d i t a b e =
     let q : i ≡ length d = omega arith in
-    e ∙ ap (λ (l : List ℕ). replicate i 0 ++ l) (drop-of-length-le d b) ∙ mathlib.Core.List.append-nil (replicate i 0) ∙ ap (λ (n : ℕ). replicate n 0) q
+    e ∙ ap (λ (l : List ℕ). replicate i 0 ++ l) (drop-of-length-le d b) ∙ mathlib.Core.List.append-nil (replicate i 0)
+    ∙ ap (λ (n : ℕ). replicate n 0) q

@@ -117,13 +117,15 @@ module _ (ps : List (List ℕ)) (I : List ℕ → ℕ) (goal : List Put) (m U B 
       placed-on P low = record {
         xs = put (labels ps) (A .xs) p;
         ahead = N .others;
-        queue = subst (λ (y : List ℕ). Queued ps I y (put (labels ps) (A .xs) p) (N .others) (see m node .tail)) (sym (em ∙ ap (keptOn m node) (P .answer)))
+        queue = subst (λ (y : List ℕ). Queued ps I y (put (labels ps) (A .xs) p) (N .others) (see m node .tail))
+            (sym (em ∙ ap (keptOn m node) (P .answer)))
             (queue-step queue-now b fit);
         some = λ q mq. A .some q (subst (Mem q) (sym (N .split)) (there mq));
         going = record {
           small = A .going .small;
           front = subst (λ (y : Front). FrontOk (labels ps) (put (labels ps) (A .xs) p) (y .from) (y .high) end) (sym ea')
-              (front-then (labels ps) (A .xs) p U' B' (at .from) (at .high) end b (A .going .front) (P .marks) (bounds .from-le) (bounds .blocks) refl
+              (front-then (labels ps) (A .xs) p U' B' (at .from) (at .high) end b (A .going .front) (P .marks) (bounds .from-le)
+              (bounds .blocks) refl
               (subst (Below (end * 64)) (P .answer) low));
           marks = P .marks;
           cursors = P .cursors;
@@ -156,11 +158,13 @@ module _ {ps : List (List ℕ)} {I : List ℕ → ℕ} {goal : List Put} {m U B 
   full-ends (inl A) e = absurd (clash e (A .not-full))
   full-ends (inr S) e = inr S
 
-  pub open-goes : {k : ℕ} → Amid ps I goal m U B C node fuel at end ⊎ Short goal at end → at .full ≡ false → node ≡ k → Amid ps I goal m U B C k fuel at end
+  pub open-goes : {k : ℕ} → Amid ps I goal m U B C node fuel at end ⊎ Short goal at end → at .full ≡ false → node ≡ k
+      → Amid ps I goal m U B C k fuel at end
   open-goes (inl A) e q = subst (λ (z : ℕ). Amid ps I goal m U B C z fuel at end) q A
   open-goes (inr S) e q = absurd (clash (S .full) e)
 
-pub passed-within : (U : List ℕ) (at : Front) (end : ℕ) (p : Placed) → at .from ≤ end → at .high * 4 + 4 ≤ end → end % 4 ≡ 0 → Below (end * 64) p
+pub passed-within : (U : List ℕ) (at : Front) (end : ℕ) (p : Placed) → at .from ≤ end → at .high * 4 + 4 ≤ end → end % 4 ≡ 0
+    → Below (end * 64) p
     → Within (passedOn U at end p) end
 unfolding openOn
 passed-within U at end (At b) f h four k = record {
@@ -181,7 +185,8 @@ unfolding marked
 zero-marks n s = ap (λ (z : ℕ). eqb (bit z (s % 64)) 1) (zeros-at n (s / 64)) ∙ ap (λ (z : ℕ). eqb z 1) (bit-of-zero (s % 64))
 
 -- nothing is marked, no word is full, no cursor has moved
-begin-going : (L : List ℕ → List ℕ) → ByteLabels L → (nu nb nc end : ℕ) → 4 ≤ end → Going L [] (replicate nu 0) (replicate nb 0) (replicate nc 0) 4 0 end
+begin-going : (L : List ℕ → List ℕ) → ByteLabels L → (nu nb nc end : ℕ) → 4 ≤ end
+    → Going L [] (replicate nu 0) (replicate nb 0) (replicate nc 0) 4 0 end
 unfolding taken used any top words
 begin-going L small nu nb nc end h = record {
   small = small;
@@ -191,7 +196,8 @@ begin-going L small nu nb nc end h = record {
 }
 
 begin-zeros : (ts : List Token) → Valid ts → (m : List ℕ) (first nu nb nc end : ℕ) → 4 ≤ end → Ordered ts m first
-    → Amid (nodes ts) (idOf ts) (puts ts) m (replicate nu 0) (replicate nb 0) (replicate nc 0) first (nodeCount ts) (record { from = 4; high = 0; full = false }) end
+    → Amid (nodes ts) (idOf ts) (puts ts) m (replicate nu 0) (replicate nb 0) (replicate nc 0) first (nodeCount ts)
+    (record { from = 4; high = 0; full = false }) end
 unfolding puts place nodeCount
 begin-zeros ts v m first nu nb nc end h Q = record {
   xs = [];
@@ -209,10 +215,14 @@ pub begin : (ts : List Token) → Valid ts → {m U B C : List ℕ} {first made 
     → U ≡ replicate nu 0 → B ≡ replicate nb 0 → C ≡ replicate nc 0 → made ≡ nodeCount ts
     → Amid (nodes ts) (idOf ts) (puts ts) m U B C first made (record { from = 4; high = 0; full = false }) end
 begin ts v {m} {U} {B} {C} {first} {made} {end} nu nb nc h Q eu eb ec em =
-    subst (λ (x : List ℕ). Amid (nodes ts) (idOf ts) (puts ts) m x B C first made (record { from = 4; high = 0; full = false }) end) (sym eu)
-    (subst (λ (x : List ℕ). Amid (nodes ts) (idOf ts) (puts ts) m (replicate nu 0) x C first made (record { from = 4; high = 0; full = false }) end) (sym eb)
-    (subst (λ (x : List ℕ). Amid (nodes ts) (idOf ts) (puts ts) m (replicate nu 0) (replicate nb 0) x first made (record { from = 4; high = 0; full = false }) end) (sym ec)
-    (subst (λ (x : ℕ). Amid (nodes ts) (idOf ts) (puts ts) m (replicate nu 0) (replicate nb 0) (replicate nc 0) first x (record { from = 4; high = 0; full = false }) end) (sym em)
+    subst (λ (x : List ℕ). Amid (nodes ts) (idOf ts) (puts ts) m x B C first made (record { from = 4; high = 0; full = false }) end)
+    (sym eu)
+    (subst (λ (x : List ℕ). Amid (nodes ts) (idOf ts) (puts ts) m (replicate nu 0) x C first made
+    (record { from = 4; high = 0; full = false }) end) (sym eb)
+    (subst (λ (x : List ℕ). Amid (nodes ts) (idOf ts) (puts ts) m (replicate nu 0) (replicate nb 0) x first made
+    (record { from = 4; high = 0; full = false }) end) (sym ec)
+    (subst (λ (x : ℕ). Amid (nodes ts) (idOf ts) (puts ts) m (replicate nu 0) (replicate nb 0) (replicate nc 0) first x
+    (record { from = 4; high = 0; full = false }) end) (sym em)
     (begin-zeros ts v m first nu nb nc end h Q))))
 
 -- ---- the end

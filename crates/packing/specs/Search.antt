@@ -58,7 +58,8 @@ unfoldable pub placeOn : List ℕ → List ℕ → ℕ → ℕ → List ℕ → 
 unfolding slotOn markAll mark
 placeOn U B from end ls =
     let b = bitXor (slotOn U B from end ls) (getD ls 0 0) in
-    cond (leb (end * 64) (slotOn U B from end ls)) (record { used = U; bases = B; answer = Full }) (record { used = markAll b U ls; bases = mark B b; answer = At b })
+    cond (leb (end * 64) (slotOn U B from end ls)) (record { used = U; bases = B; answer = Full })
+    (record { used = markAll b U ls; bases = mark B b; answer = At b })
 
 -- a base is below n
 abbrev pub Below : ℕ → Placed → Type 0
@@ -81,8 +82,8 @@ startOn C ls from end =
 unfoldable pub rememberOn : List ℕ → List ℕ → ℕ → List ℕ
 rememberOn C ls b = cond (eqb (length ls) 1) (set C (getD ls 0 0) (bitXor b (getD ls 0 0) / 64)) C
 
--- What the search asks: words from `from` up to `end` are there in both runs of marks, whole blocks of four, one at least, and every slot is a
--- number of 32 bits.
+-- What the search asks: words from `from` up to `end` are there in both runs of marks, in whole blocks of four, one at least, and
+-- every slot is a number of 32 bits.
 pub record Bounds (U B : List ℕ) (from end : ℕ) : Type 0 where
   pub from-le : from ≤ end
   pub blocks : end % 4 ≡ 0

@@ -16,7 +16,8 @@ use Rattle.packing.specs.declared.Front.{Front}
 -- ---- what holds on the way
 
 -- amid the walk: what is placed, and what is ahead from node on, lead to goal
-pub record Amid (ps : List (List ℕ)) (I : List ℕ → ℕ) (goal : List Put) (m U B C : List ℕ) (node fuel : ℕ) (at : Front) (end : ℕ) : Type 0 where
+pub record Amid (ps : List (List ℕ)) (I : List ℕ → ℕ) (goal : List Put) (m U B C : List ℕ) (node fuel : ℕ) (at : Front)
+    (end : ℕ) : Type 0 where
   pub xs : List Put
   pub ahead : List (List ℕ)
   pub queue : Queued ps I m xs ahead node

@@ -32,8 +32,12 @@ loop-less c = let e = c .before .loop .inv .0 in omega arith
 
 loop-again : tie.Need-loop-again Inv-loop μ-loop
 loop-again c =
-    let v = c .before .loop .inv in
-    (simp length-set (v .0), omega arith, ap (λ (l : List ℕ). set l (c .before .loop .i) 0) (v .2) ∙ fill-more (c .before .loop .i) 0 (c .before .before .args .cells .now) (omega arith))
+    let v = c .before .loop .inv in (
+      simp length-set (v .0),
+      omega arith,
+      ap (λ (l : List ℕ). set l (c .before .loop .i) 0) (v .2)
+          ∙ fill-more (c .before .loop .i) 0 (c .before .before .args .cells .now) (omega arith),
+    )
 
 same-length : tie.Need-same-length Inv-loop μ-loop
 same-length c = c .before .loop .inv .0

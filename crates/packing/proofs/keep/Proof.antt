@@ -29,7 +29,8 @@ same-length c = search needs
 returns-2 : tie.Need-returns-2
 returns-2 c =
     let a = c .before .before .before .before .before .before .before .before .before .args in
-    c .before .before .set-tail .ensures ∙ ap (setTail (a .nodes .now) (a .node)) (c .before .before .before .narrow .ensures) ∙ sym (ap (keptOn (a .nodes .now) (a .node)) (c .before .before .before .before .before .before .p .given .1))
+    c .before .before .set-tail .ensures ∙ ap (setTail (a .nodes .now) (a .node)) (c .before .before .before .narrow .ensures)
+    ∙ sym (ap (keptOn (a .nodes .now) (a .node)) (c .before .before .before .before .before .before .p .given .1))
 
 pub keep-spec : {M : Type 1} → statement M
 keep-spec =

@@ -13,14 +13,18 @@ words-of-marks-requires c κs = search needs
 returns : tie.Need-returns
 returns c =
     λ ts v S em.
-      let z = end-zero _ _ _ _ (c .before .words-of-marks .ensures) (c .if1 .taken) in
-      let w = words-pos ts in
-      past-answer ts _ _ _ _ _ (omega arith)
+    let z = end-zero _ _ _ _ (c .before .words-of-marks .ensures) (c .if1 .taken) in
+    let w = words-pos ts in
+    past-answer ts _ _ _ _ _ (omega arith)
 
 place-all-requires : tie.Need-place-all-requires
 place-all-requires c κs =
-    let p = c .before .before .before .before .before .before .before .before .before .before .pre in
-    (p .0, p .1, end-bounds _ _ _ _ (c .before .before .before .before .words-of-marks .ensures) _ _ refl refl (c .before .before .before .if1 .left))
+    let p = c .before .before .before .before .before .before .before .before .before .before .pre in (
+      p .0,
+      p .1,
+      end-bounds _ _ _ _ (c .before .before .before .before .words-of-marks .ensures) _ _ refl refl
+          (c .before .before .before .if1 .left),
+    )
 
 same-length : tie.Need-same-length
 same-length c = search needs
@@ -34,7 +38,9 @@ same-length-3 c = search needs
 returns-2 : tie.Need-returns-2
 returns-2 c =
     λ ts v S em.
-      past-answer ts _ _ _ _ _ (end-past _ _ _ _ (c .before .before .before .before .before .before .before .before .before .before .before .before .words-of-marks .ensures) ts v (ended-full (c .before .before .before .before .before .before .before .place-all .ensures .0 ts _ v S em) (c .if2 .taken)))
+    past-answer ts _ _ _ _ _ (end-past _ _ _ _
+    (c .before .before .before .before .before .before .before .before .before .before .before .before .words-of-marks .ensures) ts v
+    (ended-full (c .before .before .before .before .before .before .before .place-all .ensures .0 ts _ v S em) (c .if2 .taken)))
 
 put-all-requires : tie.Need-put-all-requires
 put-all-requires c κs = search needs
@@ -65,11 +71,19 @@ same-length-8 c = search needs
 
 returns-3 : tie.Need-returns-3
 returns-3 c =
-    let p = c .before .before .before .before .before .before .before .before .before .before .before .before .before .before .before .before .before .before .before .before .before .before .before .before .before .before .before .before .pre in
-    let a = c .before .before .before .before .before .before .before .before .before .before .before .before .before .before .before .before .before .before .before .before .before .before .before .before .before .before .before .before .args in
+    let p = c .before .before .before .before .before .before .before .before .before .before .before .before .before .before .before
+    .before .before .before .before .before .before .before .before .before .before .before .before .before .pre in
+    let a = c .before .before .before .before .before .before .before .before .before .before .before .before .before .before .before
+    .before .before .before .before .before .before .before .before .before .before .before .before .before .args in
     λ ts v S em.
-      fits-answer ts v _ _ _ _ _ _ _ _ _ _ _ S em (p .2) (capacity-le _ _ _) (end-room _ _ _ _ (c .before .before .before .before .before .before .before .before .before .before .before .before .before .before .before .before .before .before .before .before .before .before .words-of-marks .ensures))
-      (ended-open (c .before .before .before .before .before .before .before .before .before .before .before .before .before .before .before .before .before .place-all .ensures .0 ts _ v S em) (c .before .before .before .before .before .before .before .before .before .before .if2 .left)) (c .narrow .ensures) (c .before .before .before .before .before .before .put-all .ensures .0) (c .before .before .before .before .before .before .put-all .ensures .1)
+    fits-answer ts v _ _ _ _ _ _ _ _ _ _ _ S em (p .2) (capacity-le _ _ _)
+    (end-room _ _ _ _ (c .before .before .before .before .before .before .before .before .before .before .before .before .before
+    .before .before .before .before .before .before .before .before .before .words-of-marks .ensures))
+    (ended-open (c .before .before .before .before .before .before .before .before .before .before .before .before .before .before
+    .before .before .before .place-all .ensures .0 ts _ v S em)
+    (c .before .before .before .before .before .before .before .before .before .before .if2 .left)) (c .narrow .ensures)
+    (c .before .before .before .before .before .before .put-all .ensures .0)
+    (c .before .before .before .before .before .before .put-all .ensures .1)
 
 pub pack-spec : {M : Type 1} → statement M
 pack-spec =

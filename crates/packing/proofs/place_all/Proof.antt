@@ -38,12 +38,25 @@ same-length-3 c = search needs
 returns : tie.Need-returns
 unfolding nodeCount
 returns c =
-    let p = c .before .before .before .before .before .before .before .before .before .before .before .before .before .before .before .before .before .before .before .before .before .before .before .before .before .before .before .pre .2 in
-    ((λ ts rs v S em.
-        let n : c .before .before .before .before .before .before .before .before .before .before .before .before .before .before .before .before .before .before .before .before .before .before .before .before .before .before .before .args .made ≡ suc (length (nodes ts)) = omega arith in
-        c .before .before .before .before .before .before .before .place-chain .ensures .0 (nodes ts) (idOf ts) (puts ts) n
-        (begin ts v (length (c .before .before .before .before .before .before .before .before .before .before .before .before .before .before .before .before .before .before .before .before .before .before .before .before .before .before .before .args .used .now)) (length (c .before .before .before .before .before .before .before .before .before .before .before .before .before .before .before .before .before .before .before .before .before .before .before .before .before .before .before .args .bases .now)) 256 (p .some) (c .before .before .before .before .before .before .before .before .before .before .before .before .before .before .thread-all .ensures .0 ts rs S em) (c .before .before .before .before .before .before .before .before .before .before .before .before .before .before .before .before .before .before .before .before .before .before .clear .ensures) (c .before .before .before .before .before .before .before .before .before .before .before .before .before .before .before .before .before .before .clear2 .ensures) refl em)),
-     c .before .before .before .before .before .before .before .place-chain .ensures .1)
+    let p = c .before .before .before .before .before .before .before .before .before .before .before .before .before .before .before
+    .before .before .before .before .before .before .before .before .before .before .before .before .pre .2 in (
+      (λ ts rs v S em.
+          let n : c .before .before .before .before .before .before .before .before .before .before .before .before .before .before
+          .before .before .before .before .before .before .before .before .before .before .before .before .before .args .made ≡ suc
+          (length (nodes ts)) = omega arith in
+          c .before .before .before .before .before .before .before .place-chain .ensures .0 (nodes ts) (idOf ts) (puts ts) n
+          (begin ts v (length (c .before .before .before .before .before .before .before .before .before .before .before .before .before
+          .before .before .before .before .before .before .before .before .before .before .before .before .before .before .args .used
+          .now)) (length (c .before .before .before .before .before .before .before .before .before .before .before .before .before
+          .before .before .before .before .before .before .before .before .before .before .before .before .before .before .args .bases
+          .now)) 256 (p .some) (c .before .before .before .before .before .before .before .before .before .before .before .before .before
+          .before .thread-all .ensures .0 ts rs S em)
+          (c .before .before .before .before .before .before .before .before .before .before .before .before .before .before .before
+          .before .before .before .before .before .before .before .clear .ensures)
+          (c .before .before .before .before .before .before .before .before .before .before .before .before .before .before .before
+          .before .before .before .clear2 .ensures) refl em)),
+      c .before .before .before .before .before .before .before .place-chain .ensures .1,
+    )
 
 pub place-all-spec : {M : Type 1} → statement M
 place-all-spec =

@@ -24,12 +24,13 @@ gather-requires c κs = search needs
 
 returns : tie.Need-returns
 returns c =
-    let p = c .before .before .before .before .before .before .before .before .pre .2 .some in
-    ((λ ps I xs q high T em mq en some G.
-        let g = c .before .before .gather .ensures .0 ps I q T em mq en .count in
-        let z = c .if1 .taken in
-        absurd (omega arith)),
-     omega arith)
+    let p = c .before .before .before .before .before .before .before .before .pre .2 .some in (
+      (λ ps I xs q high T em mq en some G.
+          let g = c .before .before .gather .ensures .0 ps I q T em mq en .count in
+          let z = c .if1 .taken in
+          absurd (omega arith)),
+      omega arith,
+    )
 
 array-share-prefix-room : tie.Need-array-share-prefix-room
 array-share-prefix-room c = search needs
@@ -40,8 +41,12 @@ slice-aggregate-place-labels c = sym (length-take-le _ _ (few (c .before .before
 place-labels-requires : tie.Need-place-labels-requires
 place-labels-requires c κs =
     let p = c .before .before .before .before .before .before .before .before .before .before .before .before .pre in
-    let z = c .before .before .before .before .if1 .left in
-    (p .2, p .3, subst (λ (n : ℕ). 1 ≤ n) (sym (length-take-le _ _ (few (c .before .before .before .before .before .before)))) (omega (arith, z)))
+    let z = c .before .before .before .before .if1 .left in (
+      p .2,
+      p .3,
+      subst (λ (n : ℕ). 1 ≤ n) (sym (length-take-le _ _ (few (c .before .before .before .before .before .before))))
+          (omega (arith, z)),
+    )
 
 same-length : tie.Need-same-length
 same-length c = search needs
@@ -53,9 +58,12 @@ same-length-3 : tie.Need-same-length-3
 same-length-3 c = search needs
 
 returns-2 : tie.Need-returns-2
-returns-2 c =
-    ((λ ps I xs q high T em mq en some G. c .before .before .before .before .before .before .place-labels .ensures .0 (labels ps) xs q high (gathered-take (c .before .before .before .before .before .before .before .before .before .before .before .before .before .gather .ensures .0 ps I q T em mq en)) G),
-     c .before .before .before .before .before .before .place-labels .ensures .1)
+returns-2 c = (
+  (λ ps I xs q high T em mq en some G. c .before .before .before .before .before .before .place-labels .ensures .0 (labels ps) xs q high
+      (gathered-take (c .before .before .before .before .before .before .before .before .before .before .before .before .before .gather
+      .ensures .0 ps I q T em mq en)) G),
+  c .before .before .before .before .before .before .place-labels .ensures .1,
+)
 
 pub place-gathered-spec : {M : Type 1} → statement M
 place-gathered-spec =

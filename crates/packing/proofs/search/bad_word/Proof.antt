@@ -1,4 +1,5 @@
--- `packing::search::bad_word` meets its contract. The loop: bit j of bad says that a child's slot is taken, for the labels before k. Assumes nothing.
+-- `packing::search::bad_word` meets its contract. The loop: bit j of bad says that the slot of a label before k is taken. Assumes
+-- nothing.
 use mathlib.Core.Path.{ap, _∙_}
 use Prim.Native.Nat.{ℕ, _-_, _≤_}
 use native.Mathlib.Omega.{arith}
@@ -29,10 +30,15 @@ shared-slice-read-bad : tie.Need-shared-slice-read-bad Inv-loop μ-loop
 shared-slice-read-bad c = omega arith
 
 loop-holds : tie.Need-loop-holds Inv-loop μ-loop
-loop-holds c = (c .before .before .before .before .before .before .pre .2, clash-first _ _ (c .before .before .before .before .before .before .args .labels .now) _ (c .before .wide .ensures) (c .before .before .before .before .before .before .pre .2))
+loop-holds c = (
+  c .before .before .before .before .before .before .pre .2,
+  clash-first _ _ (c .before .before .before .before .before .before .args .labels .now) _ (c .before .wide .ensures)
+      (c .before .before .before .before .before .before .pre .2),
+)
 
 returns : tie.Need-returns Inv-loop μ-loop
-returns c = clash-all _ _ (c .before .before .before .before .before .before .before .before .before .args .labels .now) _ _ (c .before .before .before .before .wide .ensures) (c .before .before .loop .k) _ (c .if1 .taken) (c .before .before .loop .inv .1)
+returns c = clash-all _ _ (c .before .before .before .before .before .before .before .before .before .args .labels .now) _ _
+    (c .before .before .before .before .wide .ensures) (c .before .before .loop .k) _ (c .if1 .taken) (c .before .before .loop .inv .1)
 
 shared-slice-read-wide-2 : tie.Need-shared-slice-read-wide-2 Inv-loop μ-loop
 shared-slice-read-wide-2 c = omega arith
@@ -46,7 +52,8 @@ moved-requires c κs =
     let f = c .wide2 .ensures in
     let a = c .before .before .before .before .before .before .before .shared-slice-known4 .given 0 in
     let b = c .before .shared-slice-known6 .given (c .before .before .before .before .loop .k) in
-    in-four _ _ _ (xor-lt 8 (c .before .before .before .before .before .before .wide .result) (c .wide2 .result) (omega arith) (omega arith)) (c .before .before .before .before .before .before .before .before .before .before .before .pre .0)
+    in-four _ _ _ (xor-lt 8 (c .before .before .before .before .before .before .wide .result) (c .wide2 .result) (omega arith)
+    (omega arith)) (c .before .before .before .before .before .before .before .before .before .before .before .pre .0)
 
 add-k : tie.Need-add-k Inv-loop μ-loop
 add-k c = omega arith
@@ -58,7 +65,10 @@ loop-again : tie.Need-loop-again Inv-loop μ-loop
 loop-again c = (
   omega arith,
   clash-more _ _ _ _ _ _ _ (c .before .before .before .before .loop-test .taken) (c .before .before .before .before .before .loop .inv .1)
-      (c .moved .ensures ∙ ap (λ (z : ℕ). movedWord (c .before .before .before .before .before .before .before .before .before .before .before .before .args .used .now) (c .before .before .before .before .before .before .before .before .before .before .before .before .args .i) (bitXor (c .before .before .before .before .before .before .before .wide .result) z)) (c .before .wide2 .ensures)),
+      (c .moved .ensures ∙ ap (λ (z : ℕ). movedWord
+      (c .before .before .before .before .before .before .before .before .before .before .before .before .args .used .now)
+      (c .before .before .before .before .before .before .before .before .before .before .before .before .args .i)
+      (bitXor (c .before .before .before .before .before .before .before .wide .result) z)) (c .before .wide2 .ensures)),
 )
 
 moved-requires-2 : tie.Need-moved-requires-2 Inv-loop μ-loop
@@ -68,7 +78,8 @@ moved-requires-2 c κs =
     in-four _ _ _ (omega arith) (c .before .before .before .before .before .before .before .before .pre .1)
 
 returns-2 : tie.Need-returns-2 Inv-loop μ-loop
-returns-2 c = clash-base _ _ _ _ _ (c .before .before .before .before .wide .ensures) _ _ _ (c .before .loop-test .left) (c .before .before .loop .inv .1) (c .moved2 .ensures)
+returns-2 c = clash-base _ _ _ _ _ (c .before .before .before .before .wide .ensures) _ _ _ (c .before .loop-test .left)
+    (c .before .before .loop .inv .1) (c .moved2 .ensures)
 
 pub bad-word-spec : {M : Type 1} → statement M
 bad-word-spec =

@@ -11,7 +11,8 @@ use Rattle.packing.proofs.search.find_slot.Statement.{statement}
 use Rattle.packing.proofs.search.find_slot.Tie as tie
 
 abbrev Inv-loop : tie.InvT-loop
-Inv-loop used bases from end labels i₀ i = (from ≤ i) × (i ≤ end) × ((s : ℕ) → from * 64 ≤ s → s < i * 64 → badAt used bases labels s ≡ true)
+Inv-loop used bases from end labels i₀ i = (from ≤ i) × (i ≤ end)
+    × ((s : ℕ) → from * 64 ≤ s → s < i * 64 → badAt used bases labels s ≡ true)
 
 abbrev μ-loop : tie.MeasureT-loop
 μ-loop used bases from end labels i₀ i = end - i
@@ -37,7 +38,8 @@ add-result c =
 returns : tie.Need-returns Inv-loop μ-loop
 returns c =
     let v = c .before .before .before .before .loop .inv in
-    hit _ _ _ _ _ (c .before .before .bad-word .ensures) (c .before .before .bad-word .ok) _ _ _ (c .before .if1 .taken) (c .count .ensures) (v .0) (omega arith) (v .2)
+    hit _ _ _ _ _ (c .before .before .bad-word .ensures) (c .before .before .bad-word .ok) _ _ _ (c .before .if1 .taken)
+    (c .count .ensures) (v .0) (omega arith) (v .2)
 
 add-i : tie.Need-add-i Inv-loop μ-loop
 add-i c = omega arith
@@ -47,8 +49,12 @@ loop-less c = omega arith
 
 loop-again : tie.Need-loop-again Inv-loop μ-loop
 loop-again c =
-    let v = c .before .before .before .loop .inv in
-    (omega arith, omega arith, both _ _ _ _ (v .2) (all-bad _ _ _ _ _ (c .before .bad-word .ensures) (c .before .bad-word .ok) (c .if1 .left)))
+    let v = c .before .before .before .loop .inv in (
+      omega arith,
+      omega arith,
+      both _ _ _ _ (v .2)
+          (all-bad _ _ _ _ _ (c .before .bad-word .ensures) (c .before .bad-word .ok) (c .if1 .left)),
+    )
 
 mul-result-2 : tie.Need-mul-result-2 Inv-loop μ-loop
 mul-result-2 c = omega arith

@@ -1,4 +1,4 @@
--- `packing::search::mark_all` meets its contract. The loop: what is marked from here on is what was to be marked at the start. Assumes nothing.
+-- `packing::search::mark_all` meets its contract. The loop: what is left to mark is what is left of the labels. Assumes nothing.
 use mathlib.Core.Path.{_≡_, refl, sym, ap, _∙_}
 use Prim.Native.Nat.{ℕ, _-_}
 use native.Mathlib.Omega.{arith}
@@ -44,7 +44,10 @@ loop-again c =
     let e = c .before .before .mark-slot .ensures in
     let i = c .before .before .before .before .before .before .before .loop .inv in (
       ap length e ∙ length-mark _ _ ∙ i .0,
-      sym (marks-on _ _ _ _ _ (c .before .before .before .before .before .before .loop-test .taken) (e ∙ ap (λ (z : ℕ). mark (c .before .before .before .before .before .before .before .loop .marks) (bitXor (c .before .before .before .before .before .before .before .before .before .before .args .base) z)) (c .before .before .before .wide .ensures))) ∙ i .1,
+      sym (marks-on _ _ _ _ _ (c .before .before .before .before .before .before .loop-test .taken)
+          (e ∙ ap (λ (z : ℕ). mark (c .before .before .before .before .before .before .before .loop .marks)
+          (bitXor (c .before .before .before .before .before .before .before .before .before .before .args .base) z))
+          (c .before .before .before .wide .ensures))) ∙ i .1,
     )
 
 same-length : tie.Need-same-length Inv-loop μ-loop

@@ -32,7 +32,12 @@ loop-less : tie.Need-loop-less Inv-loop μ-loop
 loop-less c = omega arith
 
 loop-again : tie.Need-loop-again Inv-loop μ-loop
-loop-again c = let v = c .before .before .before .loop .inv in (omega arith, omega arith, open-on (c .before .before .before .before .args .used .now) _ (c .before .before .before .before .args .end) _ (v .0) (v .1) (v .2) (c .if1 .left))
+loop-again c = let v = c .before .before .before .loop .inv in (
+  omega arith,
+  omega arith,
+  open-on (c .before .before .before .before .args .used .now) _
+      (c .before .before .before .before .args .end) _ (v .0) (v .1) (v .2) (c .if1 .left),
+)
 
 returns-2 : tie.Need-returns-2 Inv-loop μ-loop
 returns-2 c = let v = c .before .loop .inv in open-none _ _ _ _ (v .0) (v .1) (v .2) (c .loop-test .left)

@@ -16,8 +16,20 @@ place-one-requires : tie.Need-place-one-requires
 place-one-requires c κs =
     let p = c .before .before .before .before .before .before .before .before .pre in
     let e = c .before .before .start-of .ensures in
-    let h = start-in (c .before .before .before .before .before .before .before .before .args .cursors .now) (c .before .before .before .before .before .before .before .before .args .labels .now) (c .before .before .before .before .before .before .before .before .args .from) (c .before .before .before .before .before .before .before .before .args .end) (p .0 .from-le) .1 in
-    (record { from-le = omega arith; blocks = p .0 .blocks; some = p .0 .some; in-used = p .0 .in-used; in-bases = p .0 .in-bases; small = p .0 .small }, p .2)
+    let h = start-in (c .before .before .before .before .before .before .before .before .args .cursors .now)
+    (c .before .before .before .before .before .before .before .before .args .labels .now)
+    (c .before .before .before .before .before .before .before .before .args .from)
+    (c .before .before .before .before .before .before .before .before .args .end) (p .0 .from-le) .1 in (
+      record {
+        from-le = omega arith;
+        blocks = p .0 .blocks;
+        some = p .0 .some;
+        in-used = p .0 .in-used;
+        in-bases = p .0 .in-bases;
+        small = p .0 .small;
+      },
+      p .2,
+    )
 
 enum-known-base : tie.Need-enum-known-base
 enum-known-base c = search needs
@@ -36,14 +48,22 @@ same-length-3 c = search needs
 
 returns : tie.Need-returns
 returns c =
-    let p = c .before .before .before .before .before .before .before .before .before .before .before .before .before .before .before .pre in
-    ((λ L xs q high el G. stands-full L xs q _ _ _ _ high _ G (p .0) _ el (p .2) _ (c .before .before .before .before .before .before .before .before .before .start-of .ensures) _ _ _ (c .before .before .before .before .before .before .place-one .ensures .0) (c .enum-told .given .1) _), tt)
+    let p = c .before .before .before .before .before .before .before .before .before .before .before .before .before .before .before
+    .pre in (
+      (λ L xs q high el G. stands-full L xs q _ _ _ _ high _ G (p .0) _ el (p .2) _
+          (c .before .before .before .before .before .before .before .before .before .start-of .ensures) _ _ _
+          (c .before .before .before .before .before .before .place-one .ensures .0) (c .enum-told .given .1) _),
+      tt,
+    )
 
 remember-requires : tie.Need-remember-requires
 remember-requires c κs =
-    let p = c .before .before .before .before .before .before .before .before .before .before .before .before .before .before .before .before .before .pre in
+    let p = c .before .before .before .before .before .before .before .before .before .before .before .before .before .before .before
+    .before .before .pre in
     let low = p .0 .small in
-    let b = subst (Below (c .before .before .before .before .before .before .before .before .before .before .before .before .before .before .before .before .before .args .end * 64)) (c .before .before .base .given .1) (c .before .before .before .before .before .before .before .before .place-one .ensures .1) in
+    let b = subst (Below (c .before .before .before .before .before .before .before .before .before .before .before .before .before
+    .before .before .before .before .args .end * 64)) (c .before .before .base .given .1)
+    (c .before .before .before .before .before .before .before .before .place-one .ensures .1) in
     (p .1, p .2, omega arith)
 
 same-length-4 : tie.Need-same-length-4
@@ -57,9 +77,15 @@ same-length-6 c = search needs
 
 returns-2 : tie.Need-returns-2
 returns-2 c =
-    let p = c .before .before .before .before .before .before .before .before .before .before .before .before .before .before .before .before .before .before .before .before .pre in (
-      (λ L xs q high el G. stands-at L xs q _ _ _ _ high _ G (p .0) _ el (p .2) _ (c .before .before .before .before .before .before .before .before .before .before .before .before .before .before .start-of .ensures) _ _ _ (c .before .before .before .before .before .before .before .before .before .before .before .place-one .ensures .0) _ (c .before .before .before .before .before .base .given .1) (p .1) _ (c .before .before .remember .ensures)),
-      subst (Below (c .before .before .before .before .before .before .before .before .before .before .before .before .before .before .before .before .before .before .before .before .args .end * 64)) (c .before .before .before .before .before .base .given .1) (c .before .before .before .before .before .before .before .before .before .before .before .place-one .ensures .1),
+    let p = c .before .before .before .before .before .before .before .before .before .before .before .before .before .before .before
+    .before .before .before .before .before .pre in (
+      (λ L xs q high el G. stands-at L xs q _ _ _ _ high _ G (p .0) _ el (p .2) _
+          (c .before .before .before .before .before .before .before .before .before .before .before .before .before .before .start-of
+          .ensures) _ _ _ (c .before .before .before .before .before .before .before .before .before .before .before .place-one .ensures .0) _
+          (c .before .before .before .before .before .base .given .1) (p .1) _ (c .before .before .remember .ensures)),
+      subst (Below (c .before .before .before .before .before .before .before .before .before .before .before .before .before .before
+          .before .before .before .before .before .before .args .end * 64)) (c .before .before .before .before .before .base .given .1)
+          (c .before .before .before .before .before .before .before .before .before .before .before .place-one .ensures .1),
     )
 
 pub place-labels-spec : {M : Type 1} → statement M

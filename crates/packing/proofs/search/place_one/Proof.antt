@@ -46,7 +46,8 @@ mark-all-requires : tie.Need-mark-all-requires
 mark-all-requires c κs =
     let e = c .before .before .before .before .before .wide .ensures in
     let b = c .before .before .before .before .before .before .shared-slice-known2 .given 0 in
-    let q = xor-block-of (c .before .before .before .before .before .before .before .before .find-slot .result) (c .before .before .before .before .before .wide .result) (omega arith) in
+    let q = xor-block-of (c .before .before .before .before .before .before .before .before .find-slot .result)
+    (c .before .before .before .before .before .wide .result) (omega arith) in
     let l = c .before .before .before .before .before .before .before .if1 .left in
     let p = c .before .before .before .before .before .before .before .before .before .before .before .before .before .before .pre .0 in
     let four = p .blocks in
@@ -64,10 +65,15 @@ unfolding slotOn
 returns-2 c =
     let e = c .before .before .before .before .before .before .before .before .wide .ensures in
     let b = c .before .before .before .before .before .before .before .before .before .shared-slice-known2 .given 0 in
-    let q = xor-block-of (c .before .before .before .before .before .before .before .before .before .before .before .find-slot .result) (c .before .before .before .before .before .before .before .before .wide .result) (omega arith) in
+    let q = xor-block-of (c .before .before .before .before .before .before .before .before .before .before .before .find-slot .result)
+    (c .before .before .before .before .before .before .before .before .wide .result) (omega arith) in
     let l = c .before .before .before .before .before .before .before .before .before .before .if1 .left in
-    let four = c .before .before .before .before .before .before .before .before .before .before .before .before .before .before .before .before .before .pre .0 .blocks in (
-      place-at _ _ _ _ _ _ (c .before .before .before .before .before .before .before .before .before .before .before .find-slot .ensures) _ _ _ l (ap (bitXor (c .before .before .before .before .before .before .before .before .before .before .before .find-slot .result)) e) (c .before .before .mark-all .ensures) (c .before .before .before .before .before .before .mark-slot .ensures),
+    let four = c .before .before .before .before .before .before .before .before .before .before .before .before .before .before .before
+    .before .before .pre .0 .blocks in (
+      place-at _ _ _ _ _ _ (c .before .before .before .before .before .before .before .before .before .before .before .find-slot
+          .ensures) _ _ _ l (ap (bitXor (c .before .before .before .before .before .before .before .before .before .before .before
+          .find-slot .result)) e) (c .before .before .mark-all .ensures)
+          (c .before .before .before .before .before .before .mark-slot .ensures),
       omega arith,
     )
 

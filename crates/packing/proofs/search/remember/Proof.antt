@@ -19,7 +19,8 @@ narrow-requires : tie.Need-narrow-requires
 narrow-requires c κs =
     let e = c .wide .ensures in
     let b = c .before .shared-slice-known2 .given 0 in
-    let h = xor-lt 32 (c .before .before .before .before .before .args .base) (c .wide .result) (c .before .before .before .before .before .pre .2) (omega arith) in
+    let h = xor-lt 32 (c .before .before .before .before .before .args .base) (c .wide .result)
+    (c .before .before .before .before .before .pre .2) (omega arith) in
     omega arith
 
 mul-cursors : tie.Need-mul-cursors

@@ -8,8 +8,12 @@ use borrow.Author.Needs.{needs}
 use Rattle.packing.proofs.search.start_of.Statement.{statement}
 use Rattle.packing.proofs.search.start_of.Tie as tie
 
-cursor-is : (c : tie.After-count) → c .count .result ≡ getD (c .before .before .before .before .before .before .before .args .cursors .now) (getD (c .before .before .before .before .before .before .before .args .labels .now) 0 0) 0
-cursor-is c = c .count .ensures ∙ ap (λ (z : ℕ). getD (c .before .before .before .before .before .before .before .args .cursors .now) z 0) (c .before .before .wide .ensures)
+cursor-is : (c : tie.After-count)
+    → c .count .result ≡ getD (c .before .before .before .before .before .before .before .args .cursors .now)
+    (getD (c .before .before .before .before .before .before .before .args .labels .now) 0 0) 0
+cursor-is c = c .count .ensures
+    ∙ ap (λ (z : ℕ). getD (c .before .before .before .before .before .before .before .args .cursors .now) z 0)
+    (c .before .before .wide .ensures)
 
 returns : tie.Need-returns
 returns c = start-more _ _ _ _ (c .if1 .taken)
@@ -39,10 +43,12 @@ returns-2 : tie.Need-returns-2
 returns-2 c = start-low _ _ _ _ (c .before .before .before .before .before .if1 .left) _ (cursor-is (c .before)) (c .if2 .taken)
 
 returns-3 : tie.Need-returns-3
-returns-3 c = start-out _ _ _ _ (c .before .before .before .before .before .before .if1 .left) _ (cursor-is (c .before .before)) (c .before .if2 .left) (c .if3 .taken)
+returns-3 c = start-out _ _ _ _ (c .before .before .before .before .before .before .if1 .left) _ (cursor-is (c .before .before))
+    (c .before .if2 .left) (c .if3 .taken)
 
 returns-4 : tie.Need-returns-4
-returns-4 c = start-far _ _ _ _ (c .before .before .before .before .before .before .if1 .left) _ (cursor-is (c .before .before)) (c .before .if2 .left) (c .if3 .left)
+returns-4 c = start-far _ _ _ _ (c .before .before .before .before .before .before .if1 .left) _ (cursor-is (c .before .before))
+    (c .before .if2 .left) (c .if3 .left)
 
 pub start-of-spec : {M : Type 1} → statement M
 start-of-spec =

@@ -27,9 +27,13 @@ same-length-2 c = search needs
 
 returns : tie.Need-returns
 returns c =
-    let a = c .before .before .before .before .before .before .before .before .before .before .before .before .before .before .before .args in
-    (c .before .before .before .before .before .before .put-words .ensures ∙ ap (λ (t : List ℕ). fold write t (nodeWrites (see (a .nodes .now)) (a .made) (a .made - 1) 1)) (c .before .before .before .before .before .before .before .before .before .before .clear .ensures),
-     c .before .before .put-roots .ensures)
+    let a = c .before .before .before .before .before .before .before .before .before .before .before .before .before .before .before
+    .args in (
+      c .before .before .before .before .before .before .put-words .ensures
+          ∙ ap (λ (t : List ℕ). fold write t (nodeWrites (see (a .nodes .now)) (a .made) (a .made - 1) 1))
+          (c .before .before .before .before .before .before .before .before .before .before .clear .ensures),
+      c .before .before .put-roots .ensures,
+    )
 
 pub put-all-spec : {M : Type 1} → statement M
 put-all-spec =

@@ -12,7 +12,8 @@ use Rattle.packing.proofs.words.put_roots.Statement.{statement}
 use Rattle.packing.proofs.words.put_roots.Tie as tie
 
 abbrev Inv-loop : tie.InvT-loop
-Inv-loop roots₀ nodes made i₀ roots i = (length roots ≡ length roots₀) × (i ≤ 65536) × (roots ≡ map (rootWord (see nodes) made) (take i roots₀) ++ drop i roots₀)
+Inv-loop roots₀ nodes made i₀ roots i = (length roots ≡ length roots₀) × (i ≤ 65536)
+    × (roots ≡ map (rootWord (see nodes) made) (take i roots₀) ++ drop i roots₀)
 
 abbrev μ-loop : tie.MeasureT-loop
 μ-loop roots₀ nodes made i₀ roots i = 65536 - i
@@ -48,8 +49,13 @@ loop-again c =
     let p = c .before .before .before .before .before .before .pre .0 in
     let t = c .before .before .loop-test .taken in
     let f : ℕ → ℕ = rootWord (see (a .nodes .now)) (a .made) in
-    let old = cell-old f (a .roots .now) (c .before .before .before .loop .i) (omega arith) (c .before .before .before .loop .roots) (v .2) in
-    (simp length-set (v .0), omega arith, cell-new f (a .roots .now) (c .before .before .before .loop .i) (omega arith) (c .before .before .before .loop .roots) _ (v .2) (c .root-word .ensures ∙ ap f old))
+    let old = cell-old f (a .roots .now) (c .before .before .before .loop .i) (omega arith) (c .before .before .before .loop .roots)
+    (v .2) in (
+      simp length-set (v .0),
+      omega arith,
+      cell-new f (a .roots .now) (c .before .before .before .loop .i) (omega arith) (c .before .before .before .loop .roots) _ (v .2)
+          (c .root-word .ensures ∙ ap f old),
+    )
 
 same-length : tie.Need-same-length Inv-loop μ-loop
 same-length c = c .before .loop .inv .0
@@ -58,7 +64,9 @@ returns : tie.Need-returns Inv-loop μ-loop
 returns c =
     let v = c .before .loop .inv in
     let q : c .before .loop .i ≡ 65536 = omega arith in
-    v .2 ∙ ap (λ (n : ℕ). map (rootWord (see (c .before .before .before .before .args .nodes .now)) (c .before .before .before .before .args .made)) (take n (c .before .before .before .before .args .roots .now)) ++ drop n (c .before .before .before .before .args .roots .now)) q
+    v .2 ∙ ap (λ (n : ℕ). map (rootWord (see (c .before .before .before .before .args .nodes .now))
+    (c .before .before .before .before .args .made)) (take n (c .before .before .before .before .args .roots .now)) ++ drop n
+    (c .before .before .before .before .args .roots .now)) q
 
 pub put-roots-spec : {M : Type 1} → statement M
 put-roots-spec =

@@ -15,7 +15,7 @@ use Rattle.packing.proofs.words.put_words.Tie as tie
 abbrev Inv-loop : tie.InvT-loop
 Inv-loop table₀ nodes made i₀ table i =
     (length table ≡ length table₀) × (1 ≤ i)
-      × (fold write table (nodeWrites (see nodes) made (made - i) i) ≡ fold write table₀ (nodeWrites (see nodes) made (made - 1) 1))
+    × (fold write table (nodeWrites (see nodes) made (made - i) i) ≡ fold write table₀ (nodeWrites (see nodes) made (made - 1) 1))
 
 abbrev μ-loop : tie.MeasureT-loop
 μ-loop table₀ nodes made i₀ table i = made - i
@@ -40,9 +40,13 @@ loop-less c = omega arith
 
 loop-again : tie.Need-loop-again Inv-loop μ-loop
 loop-again c =
-    let v = c .before .before .before .before .before .before .before .loop .inv in
-    (ap length (c .before .before .put-children .ensures) ∙ length-writes _ _ ∙ v .0, omega arith,
-     sym (nodes-turn _ _ _ _ _ _ _ (c .before .before .before .before .before .before .loop-test .taken) (c .before .before .before .before .before .fetch .ensures) (c .before .before .before .count .ensures) (c .before .before .put-children .ensures)) ∙ v .2)
+    let v = c .before .before .before .before .before .before .before .loop .inv in (
+      ap length (c .before .before .put-children .ensures) ∙ length-writes _ _ ∙ v .0,
+      omega arith,
+      sym (nodes-turn _ _ _ _ _ _ _ (c .before .before .before .before .before .before .loop-test .taken)
+          (c .before .before .before .before .before .fetch .ensures) (c .before .before .before .count .ensures)
+          (c .before .before .put-children .ensures)) ∙ v .2,
+    )
 
 same-length : tie.Need-same-length Inv-loop μ-loop
 same-length c = c .before .loop .inv .0

@@ -20,7 +20,8 @@ word-of-requires : tie.Need-word-of-requires
 word-of-requires c κs = search needs
 
 returns-3 : tie.Need-returns-3
-returns-3 c = root-at _ _ _ _ _ (c .before .before .before .if1 .left) (c .before .before .if2 .left) (c .before .fetch .ensures) (c .word-of .ensures)
+returns-3 c = root-at _ _ _ _ _ (c .before .before .before .if1 .left) (c .before .before .if2 .left) (c .before .fetch .ensures)
+    (c .word-of .ensures)
 
 pub root-word-spec : {M : Type 1} → statement M
 root-word-spec =
