@@ -3,23 +3,30 @@
 use mathlib.Core.Path.{_≡_}
 use mathlib.Core.Logic.{_⊎_}
 use mathlib.Core.Bool.{Bool, true, false, cond}
+use mathlib.Core.Option.{Option, none, some}
 use mathlib.Core.List.{List, [], _∷_, _++_}
 use Prim.Native.Nat.{ℕ, zero, suc, _+_, _-_, _≤_, _<_}
 use lib.Dec.{eqb}
 use lib.IntN.{ℤ, pos, negsuc}
 use lib.ListN.{length, take, drop, getD, set, replicate}
 use lib.Seq.{sets}
+use Rattle.spec.specs.Lists.{over}
 use Rattle.spec.specs.Check.{Check, pass, refuse}
 use Rattle.spec.specs.Token.{Token}
 use Rattle.spec.specs.Trie.{nodeCount}
+use Rattle.spec.specs.Layout.{tableWords}
 use Rattle.spec.specs.Valid.{Valid}
-use Rattle.spec.specs.Memory.{Memory, memory, lengthBefore, singleList, blobBytes, padded}
-use Rattle.spec.specs.Load.{Room, admit, lastId}
+use Rattle.spec.specs.Memory.{lengthBefore, singleList, offsetList, blobBytes, rootList, tableList, padded}
+use Rattle.spec.specs.Load.{Room, admit, lastId, nowhere, byte, accepted, refused, finish}
 use Rattle.trie.specs.Run.{room}
 use Rattle.trie.specs.Stands.{Stands}
 use Rattle.builder.specs.declared.Build.{Build}
 use Rattle.builder.specs.declared.Pushed.{Pushed}
 use Rattle.builder.specs.declared.Pushed.the-variants.{Taken, Refused}
+use Rattle.builder.specs.declared.Missing.{Missing}
+use Rattle.builder.specs.declared.Missing.the-variants.{Byte, Nothing}
+use Rattle.builder.specs.declared.Finished.{Finished}
+use Rattle.builder.specs.declared.Finished.the-variants.{Packed, NoTokens, Wanting, NoTable}
 
 -- ---- the state of a build
 
@@ -82,3 +89,25 @@ setOffsets os previous id total = sets os (previous + 1) (replicate (id - previo
 abbrev pub unless : {A : Type 0} → ℕ → Check A → Check A
 unless zero rest = rest
 unless (suc n) rest = refuse (suc n)
+
+-- ---- the end
+
+-- the lowest byte from b on, of n, whose cell of `single` holds no id
+unfoldable pub missingOn : List ℤ → ℕ → ℕ → Option ℕ
+missingOn s zero b = none
+missingOn s (suc n) b = let rest = missingOn s n (suc b) in cond (isTaken (getD s b (pos 0))) rest (some b)
+
+-- the byte of an answer
+abbrev pub missingOf : Missing → Option ℕ
+missingOf (Byte b) = some b
+missingOf Nothing = none
+
+-- Packed: 19 to 21 passed; offsets, roots and table are those of the tokens, the table has so many words. Else refused, by the number and
+-- the place that the table of refusals gives.
+abbrev pub FinishedAs : Bool → Room → List Token → Finished → (os rs tb os′ rs′ tb′ : List ℕ) → Type 0
+FinishedAs partial r ts (Packed n) os rs tb os′ rs′ tb′ =
+    (finish partial r ts ≡ accepted ts) × (n ≡ tableWords ts)
+    × (os′ ≡ over (offsetList ts) os) × (rs′ ≡ over (rootList ts) rs) × (tb′ ≡ padded (tableList ts) (length tb))
+FinishedAs partial r ts NoTokens os rs tb os′ rs′ tb′ = finish partial r ts ≡ refused 19 nowhere
+FinishedAs partial r ts (Wanting b) os rs tb os′ rs′ tb′ = finish partial r ts ≡ refused 20 (byte b)
+FinishedAs partial r ts NoTable os rs tb os′ rs′ tb′ = finish partial r ts ≡ refused 21 nowhere

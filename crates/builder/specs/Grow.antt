@@ -77,7 +77,7 @@ unfolding lastId
 above-low low t [] r = r .0
 above-low low t (u ∷ ts) r = let a = r .0 in let b = above-low (t .id) u ts (r .1) in omega arith
 
-last-most : (low : ℕ) (ts : List Token) → Rising low ts → (u : Token) → Mem u ts → u .id ≤ lastId ts
+pub last-most : (low : ℕ) (ts : List Token) → Rising low ts → (u : Token) → Mem u ts → u .id ≤ lastId ts
 unfolding lastId
 last-most low [] r u m = absurd (not-nil m)
 last-most low (t ∷ []) r u (here e) = let k = ap (λ (x : Token). x .id) e in omega arith

@@ -3,3 +3,4 @@ pub mod Built
 pub mod Cells
 pub mod Grow
 pub mod Begun
+pub mod Finish

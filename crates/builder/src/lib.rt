@@ -10,12 +10,13 @@ ghost use lib.ListN.{length, drop};
 ghost use lib.Seq.{sets};
 ghost use Rattle.spec.specs.Token.{Token};
 ghost use Rattle.spec.specs.Memory.{memory, tooShort, emptied};
-ghost use Rattle.spec.specs.Load.{lastId};
+ghost use Rattle.spec.specs.Load.{Room, tableRoom, lastId, demanded};
 ghost use Rattle.laws.specs.Reads.{LongEnough};
 ghost use Rattle.loading.specs.Accepted.{Reads};
 ghost use Rattle.trie.specs.Run.{room};
 ghost use Rattle.trie.specs.Stands.{Grown};
 ghost use Rattle.builder.specs.Built.{Built, Kept, Small, roomFor, PushedAs, isTaken, setSingle, setOffsets};
+ghost use Rattle.builder.specs.Built.{missingOn, missingOf, FinishedAs};
 
 // Number 1: "`single`, offsets or roots too short".
 pub fn too_short(single: &[i32], offsets: &[u32], roots: &[u64]) -> bool
@@ -242,6 +243,94 @@ pub fn push(
             }
             write(single, offsets, blob, st, id, bytes);
             Pushed::Taken(counted(st, id, made, bytes.len()))
+        }
+    }
+}
+
+// A byte without a one-byte token, or none.
+pub enum Missing {
+    Byte(u8),
+    Nothing,
+}
+
+// The lowest byte whose cell of `single` holds no id.
+fn missing_byte(single: &[i32]) -> Missing
+    requires { ⌜ 256 ≤ length (now single) ⌝ }
+    ensures { λ r. ⌜ missingOf r ≡ missingOn (now (single .entry)) 256 0 ⌝ }
+{
+    let mut b: usize = 0;
+    while b < 256 {
+        if !taken(single[b]) {
+            return Missing::Byte(b as u8);
+        }
+        b += 1;
+    }
+    Missing::Nothing
+}
+
+// The byte that full mode lacks; partial mode asks for none.
+fn demanded_byte(partial: bool, single: &[i32]) -> Missing
+    requires { ⌜ 256 ≤ length (now single) ⌝ }
+    ensures { λ r. ⌜ missingOf r ≡ demanded partial (missingOn (now (single .entry)) 256 0) ⌝ }
+{
+    if partial {
+        return Missing::Nothing;
+    }
+    missing_byte(single)
+}
+
+// The offsets behind the last id: "the last is the total".
+fn set_total(offsets: &mut [u32], previous: u16, total: u32)
+    requires { ⌜ 65537 ≤ length (now offsets) ⌝ }
+    ensures { λ r. ⌜ now (offsets .exit) ≡ setOffsets (now (offsets .entry)) previous 65536 total ⌝ }
+{
+    let from = index(previous);
+    fill::fill_u32(offsets, from + 1, 65536 - from, total);
+}
+
+// The end of a build: packed, with the table's words; or 19, 20 with the lowest byte that is wanting, or 21.
+pub enum Finished {
+    Packed(u32),
+    NoTokens,
+    Wanting(u8),
+    NoTable,
+}
+
+// The end of a build: the offsets behind the last id, the roots and the table. The runs of marks are work memory.
+pub fn finish(
+    partial: bool,
+    single: &[i32],
+    offsets: &mut [u32],
+    roots: &mut [u64],
+    table: &mut [u64],
+    nodes: &mut [u32],
+    used: &mut [u64],
+    used_bases: &mut [u64],
+    st: Build,
+) -> Finished
+    requires { ⌜ LongEnough (memory (now single) (now offsets) [] (now roots) []) × (1 ≤ st .made)
+        × (0 < st .tokens → st .made ≤ room (now nodes)) ⌝ }
+    ensures stands { λ r. ⌜ ((blob : List ℕ) (most : Room) (ts : List Token)
+        → most .table ≡ tableRoom (length (now (table .entry))) (length (now (used .entry))) (length (now («used_bases» .entry)))
+        → Built ts (now (single .entry)) (now (offsets .entry)) blob (now (roots .entry)) (now (nodes .entry)) st
+        → FinishedAs partial most ts r (now (offsets .entry)) (now (roots .entry)) (now (table .entry))
+        (now (offsets .exit)) (now (roots .exit)) (now (table .exit))) ⌝ }
+    ensures kept { λ r. ⌜ Kept (now (single .entry)) (now (offsets .entry)) (now (roots .entry))
+        (now (single .entry)) (now (offsets .exit)) (now (roots .exit)) ⌝ }
+{
+    if st.tokens == 0 {
+        return Finished::NoTokens;
+    }
+    let missing = demanded_byte(partial, single);
+    match missing {
+        Missing::Byte(b) => Finished::Wanting(b),
+        Missing::Nothing => {
+            set_total(offsets, st.previous, st.used);
+            let packed = packing::pack(nodes, st.made, roots, table, used, used_bases);
+            match packed {
+                packing::Packed::Words(n) => Finished::Packed(n),
+                packing::Packed::NoRoom => Finished::NoTable,
+            }
         }
     }
 }

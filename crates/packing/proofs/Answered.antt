@@ -3,7 +3,8 @@ use mathlib.Core.Path.{_≡_, refl, sym, ap, _∙_}
 use mathlib.Core.List.{List, _++_, map}
 use Prim.Native.Nat.{ℕ, _+_, _-_, _*_, _^_, _≤_, _<_, min}
 use native.Mathlib.Omega.{arith}
-use lib.ListN.{length, take, drop, replicate}
+use lib.ListN.{length, take, drop, replicate, length-map}
+use lib.Seq.{drop-at, length-take-le}
 use borrow.Author.Tests.{le-leb, lt-leb}
 use Rattle.spec.specs.Lists.{fold}
 use Rattle.spec.specs.Token.{Token, idOf}
@@ -98,3 +99,8 @@ module _ (ts : List Token) (v : Valid ts) (cap made w : ℕ) (rs m₀ t m t' rs'
 
       fit : tableWords ts ≤ cap
       fit = let h = T .room in omega arith
+
+-- the cells past the roots stay as they were
+pub roots-behind : (f : ℕ → ℕ) (rs rs' : List ℕ) → 65536 ≤ length rs → rs' ≡ map f (take 65536 rs) ++ drop 65536 rs → drop 65536 rs' ≡ drop 65536 rs
+roots-behind f rs rs' h e =
+    ap (drop 65536) e ∙ drop-at (map f (take 65536 rs)) (drop 65536 rs) 65536 (length-map (take 65536 rs) f ∙ length-take-le 65536 rs h)

@@ -3,7 +3,7 @@
 ghost use mathlib.Core.Path.{_≡_};
 ghost use mathlib.Core.List.{List, List·Memᴰ};
 ghost use Prim.Native.Nat.{ℕ, suc, _+_, _*_, _^_, _<_, _≤_, min, max};
-ghost use lib.ListN.{length, replicate};
+ghost use lib.ListN.{length, drop, replicate};
 ghost use Rattle.spec.specs.Token.{Token, idOf};
 ghost use Rattle.spec.specs.Trie.{nodes as nodesOf, nodeCount, labels};
 ghost use Rattle.spec.specs.Layout.{Put, puts};
@@ -244,9 +244,10 @@ pub fn pack(
     used_bases: &mut [u64],
 ) -> Packed
     requires { ⌜ (1 ≤ made) × (made ≤ room (now nodes)) × (65536 ≤ length (now roots)) ⌝ }
-    ensures { λ r. ⌜ ((ts : List Token) → Valid ts → Stands ts (now (roots .entry)) (now (nodes .entry)) → made ≡ nodeCount ts
+    ensures stands { λ r. ⌜ ((ts : List Token) → Valid ts → Stands ts (now (roots .entry)) (now (nodes .entry)) → made ≡ nodeCount ts
         → PackedAs ts (capacity (length (now (table .entry))) (length (now (used .entry))) (length (now («used_bases» .entry))))
         (now (roots .entry)) (now (table .entry)) r (now (roots .exit)) (now (table .exit))) ⌝ }
+    ensures kept { λ r. ⌜ drop 65536 (now (roots .exit)) ≡ drop 65536 (now (roots .entry)) ⌝ }
 {
     let end = words_of_marks(table.len(), used.len(), used_bases.len());
     if end == 0 {

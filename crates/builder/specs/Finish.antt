@@ -1,0 +1,158 @@
+-- The end of a build: the theorem that `finish` cites, and its parts. Assumes nothing.
+use mathlib.Core.Path.{_≡_, refl, sym, ap, ap₂, _∙_, subst}
+use mathlib.Core.Logic.{_⊎_, inl, inr}
+use mathlib.Core.Bool.{Bool, true, false, not, cond}
+use mathlib.Core.Option.{Option, none, some}
+use mathlib.Core.List.{List, [], _∷_, _++_, List·Memᴰ as Mem}
+use Prim.Native.Nat.{ℕ, zero, suc, _+_, _-_, _≤_, _<_}
+use native.Mathlib.Omega.{arith}
+use lib.IntN.{ℤ, pos}
+use lib.Dec.{leb}
+use lib.ListN.{length, take, drop, getD, replicate, length-append, length-replicate, getD-replicate, take-append-drop}
+use lib.Seq.{length-sets}
+use borrow.Author.Tests.{le-leb, lt-leb, leb-true, leb-false}
+use Rattle.spec.specs.Lists.{over, upFrom}
+use Rattle.spec.specs.Token.{Token, idOf, seen}
+use Rattle.spec.specs.Layout.{tableWords}
+use Rattle.spec.specs.Valid.{Valid}
+use Rattle.spec.specs.Memory.{lengthBefore, singleList, offsetList, blobBytes, rootList, tableList, padded}
+use Rattle.spec.specs.Load.{Room, tableRoom, lastId, nowhere, byte, Outcome, accepted, refused, missing, demanded, finish}
+use Rattle.laws.specs.Tests.{Tested, either}
+use Rattle.laws.specs.Reads.{offset-length}
+use Rattle.laws.specs.Spans.{before-all}
+use Rattle.packing.specs.Answer.{capacity, answerFor, PackedAs}
+use Rattle.packing.specs.declared.Packed.{Packed}
+use Rattle.packing.specs.declared.Packed.the-variants.{Words, NoRoom}
+use Rattle.builder.specs.Built.{Built, Kept, setOffsets, isTaken, missingOn, missingOf, FinishedAs}
+use Rattle.builder.specs.Cells.{run-before, run-in, run-behind, by-index}
+use Rattle.builder.specs.Grow.{taken-seen, last-most}
+use Rattle.builder.specs.declared.Build.{Build}
+use Rattle.builder.specs.declared.Missing.{Missing}
+use Rattle.builder.specs.declared.Missing.the-variants.{Byte, Nothing}
+use Rattle.builder.specs.declared.Finished.{Finished}
+use Rattle.builder.specs.declared.Finished.the-variants as Finished
+
+-- ---- cells
+
+-- the first n cells are new, and those behind them are l₀'s
+pub over-of : {A : Type 0} (n : ℕ) (l new l₀ : List A) → take n l ≡ new → length new ≡ n → drop n l ≡ drop n l₀ → l ≡ over new l₀
+over-of {A} n l new l₀ a b c = sym (take-append-drop n l) ∙ ap₂ (λ (x y : List A). x ++ y) a (c ∙ ap (λ (k : ℕ). drop k l₀) (sym b))
+
+-- ---- a byte that is missing
+
+missing-is : (ts : List Token) → ((u : Token) → Mem u ts → 1 ≤ u .id) → (s : List ℤ) → take 256 s ≡ singleList ts
+    → (n b : ℕ) → n + b ≤ 256 → missingOn s n b ≡ missing ts n b
+unfolding missingOn missing
+missing-is ts low s e zero b h = refl
+missing-is ts low s e (suc n) b h =
+    ap₂ (λ (c : Bool) (o : Option ℕ). cond c o (some b)) (taken-seen ts low s e b (omega arith)) (missing-is ts low s e n (suc b) (omega arith))
+
+-- ---- the offsets behind the last id
+
+module _ {ts : List Token} {s : List ℤ} {os bl rs ns : List ℕ} {st : Build} (B : Built ts s os bl rs ns st) (long : 65537 ≤ length os) (small : st .previous < 65536) where
+  offsets-end : (i : ℕ) → i < 65537 → getD (setOffsets os (st .previous) 65536 (st .used)) i 0 ≡ lengthBefore ts i
+  offsets-end i h = go (either (leb i (st .previous)))
+    where
+      go : Tested (leb i (st .previous)) → getD (setOffsets os (st .previous) 65536 (st .used)) i 0 ≡ lengthBefore ts i
+      go (inl e) =
+          let p = leb-true i (st .previous) e in
+          run-before (replicate (65536 - st .previous) (st .used)) os (st .previous + 1) i 0 (omega arith) ∙ B .offsets i p
+      go (inr e) =
+          let p = leb-false i (st .previous) e in
+          let k : st .previous + 1 + (i - (st .previous + 1)) ≡ i = omega arith in
+          let l = length-replicate (65536 - st .previous) (st .used) in
+          let q = B .previous in
+          ap (λ (x : ℕ). getD (setOffsets os (st .previous) 65536 (st .used)) x 0) (sym k)
+          ∙ run-in (replicate (65536 - st .previous) (st .used)) os (st .previous + 1) (i - (st .previous + 1)) 0 (omega arith) (omega arith)
+          ∙ getD-replicate (65536 - st .previous) (i - (st .previous + 1)) (st .used) 0 (omega arith)
+          ∙ B .used ∙ sym (before-all ts i (λ u mu. let w = last-most 0 ts (B .valid .rising) u mu in omega arith))
+
+  kept-end : drop 65537 (setOffsets os (st .previous) 65536 (st .used)) ≡ drop 65537 os
+  kept-end =
+      run-behind (replicate (65536 - st .previous) (st .used)) os (st .previous + 1) 65537
+      (let l = length-replicate (65536 - st .previous) (st .used) in omega arith)
+
+  pub offsets-all : setOffsets os (st .previous) 65536 (st .used) ≡ over (offsetList ts) os
+  unfolding offsetList
+  offsets-all =
+      let O : List ℕ = setOffsets os (st .previous) 65536 (st .used) in
+      let w = length-sets os (st .previous + 1) (replicate (65536 - st .previous) (st .used)) in
+      over-of 65537 O (upFrom (lengthBefore ts) 65537 0) os (by-index O (lengthBefore ts) 65537 0 (omega arith) offsets-end) (offset-length ts) kept-end
+
+-- ---- 19, 20 and 21, for each way that the end can go
+
+module _ (partial : Bool) (r : Room) where
+  -- the tests after the lines, of a vocabulary that has tokens
+  abbrev ending : Option ℕ → List Token → Outcome
+  ending o ts = elim o [ some b ↦ refused 20 (byte b) | none ↦ cond (leb (tableWords ts) (r .table)) (accepted ts) (refused 21 nowhere) ]
+
+  finish-none : (ts : List Token) → length ts ≡ 0 → finish partial r ts ≡ refused 19 nowhere
+  unfolding finish
+  finish-none [] e = refl
+  finish-none (t ∷ ts) e = absurd (omega arith)
+
+  finish-some : (ts : List Token) → (length ts ≡ 0 → ⊥) → finish partial r ts ≡ ending (demanded partial (missing ts 256 0)) ts
+  unfolding finish
+  finish-some [] e = absurd (e refl)
+  finish-some (t ∷ ts) e = refl
+
+  module _ {ts : List Token} {s : List ℤ} {os bl rs ns : List ℕ} {st : Build} (B : Built ts s os bl rs ns st) (tb os′ rs′ tb′ : List ℕ) where
+    abbrev As : Finished → Type 0
+    As f = FinishedAs partial r ts f os rs tb os′ rs′ tb′
+
+    wanted : demanded partial (missingOn s 256 0) ≡ demanded partial (missing ts 256 0)
+    wanted = ap (demanded partial) (missing-is ts (B .stands .low) s (B .single) 256 0 (omega arith))
+
+    pub finished-none : st .tokens ≡ 0 → As Finished.NoTokens
+    finished-none e = finish-none ts (let k = B .tokens in omega arith)
+
+    module _ (tokens : st .tokens ≡ 0 → ⊥) where
+      some-tokens : length ts ≡ 0 → ⊥
+      some-tokens e = tokens (let k = B .tokens in omega arith)
+
+      goes : (o : Option ℕ) → demanded partial (missingOn s 256 0) ≡ o → finish partial r ts ≡ ending o ts
+      goes o e = finish-some ts some-tokens ∙ ap (λ (x : Option ℕ). ending x ts) (sym wanted ∙ e)
+
+      pub finished-wanting : (m : Missing) → missingOf m ≡ demanded partial (missingOn s 256 0) → (b : ℕ) → m ≡ Byte b → As (Finished.Wanting b)
+      finished-wanting m e b k = goes (some b) (sym e ∙ ap missingOf k)
+
+      module _ (m : Missing) (e : missingOf m ≡ demanded partial (missingOn s 256 0)) (k : m ≡ Nothing) (most : ℕ) (is : r .table ≡ most)
+          (p : Packed) (P : PackedAs ts most rs tb p rs′ tb′) where
+        last-test : finish partial r ts ≡ cond (leb (tableWords ts) most) (accepted ts) (refused 21 nowhere)
+        last-test =
+            goes none (sym e ∙ ap missingOf k)
+            ∙ ap (λ (n : ℕ). cond (leb (tableWords ts) n) (accepted ts) (refused 21 nowhere)) is
+
+        pub finished-full : p ≡ NoRoom → As Finished.NoTable
+        unfolding answerFor
+        finished-full q = last-test ∙ go (leb (tableWords ts) most) (sym q ∙ P .answer)
+          where
+            go : (c : Bool) → NoRoom ≡ cond c (Words (tableWords ts)) NoRoom → cond c (accepted ts) (refused 21 nowhere) ≡ refused 21 nowhere
+            go true z = let y : _≡_ {A = ℕ} 0 1 = cc in absurd (omega arith)
+            go false z = refl
+
+        pub finished-packs : (n : ℕ) → p ≡ Words n → 65537 ≤ length os → st .previous < 65536
+            → os′ ≡ setOffsets os (st .previous) 65536 (st .used) → As (Finished.Packed n)
+        unfolding answerFor
+        finished-packs n q long small eo =
+            let (a, b) = go (leb (tableWords ts) most) (sym q ∙ P .answer) in
+            (last-test ∙ a, b, eo ∙ offsets-all B long small, P .roots n q, P .table n q)
+          where
+            go : (c : Bool) → Words n ≡ cond c (Words (tableWords ts)) NoRoom → (cond c (accepted ts) (refused 21 nowhere) ≡ accepted ts) × (n ≡ tableWords ts)
+            go true z = (refl, cc)
+            go false z = let y : _≡_ {A = ℕ} 0 1 = cc in absurd (omega arith)
+
+-- the capacity that packing works with is the room that a load has
+pub capacity-room : (table used bases : ℕ) → tableRoom table used bases ≡ capacity table used bases
+unfolding tableRoom capacity
+capacity-room table used bases = refl
+
+-- cells past the fixed lengths, where offsets were written up to the last
+pub end-kept : {s : List ℤ} {os os′ rs rs′ : List ℕ} (previous total : ℕ) → previous < 65536 → os′ ≡ setOffsets os previous 65536 total
+    → drop 65536 rs′ ≡ drop 65536 rs → Kept s os rs s os′ rs′
+end-kept {s} {os} previous total h e k = record {
+  single = refl;
+  offsets = ap (drop 65537) e
+      ∙ run-behind (replicate (65536 - previous) total) os (previous + 1) 65537 (let l = length-replicate (65536 - previous) total in omega arith);
+  roots = k;
+}
