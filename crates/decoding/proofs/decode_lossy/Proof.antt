@@ -62,7 +62,7 @@ returns-3 : tie.Need-returns-3
 returns-3 c =
     let a = c .before .before .before .before .before .before .before .before .before .before .before .before .before .args in
     lossy-answered-full (a .single .now) (a .offsets .now) (a .blob .now) (a .roots .now) (a .table .now) (a .ids .now) (a .out .now) (length (a .out .now))
-    (sym (c .before .before .before .before .before .before .too-short .ensures) ∙ c .before .before .before .before .before .if1 .left) (c .before .before .before .before .first-absent .result) (c .before .before .before .before .first-absent .ensures) (c .before .before .before .if2 .left) (rw (c .enum-told .given .1) at (c .before .before .size-text .ensures))
+    (sym (c .before .before .before .before .before .before .too-short .ensures) ∙ c .before .before .before .before .before .if1 .left) (c .before .before .before .before .first-absent .result) (c .before .before .before .before .first-absent .ensures) (c .before .before .before .if2 .left) (omega (arith, (rw (c .enum-told .given .1) at (c .before .before .size-text .ensures))))
 
 -- src/lib.rt:258:5
 write-text-requires : tie.Need-write-text-requires

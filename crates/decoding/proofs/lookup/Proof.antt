@@ -62,7 +62,7 @@ sub-if5 c = search needs
 
 -- src/lib.rt:37:9
 returns-5 : tie.Need-returns-5
-returns-5 c = sym (span-long _ _ _ (omega arith) (c .before .before .if3 .left) (c .before .if4 .left) (c .if5 .taken))
+returns-5 c = sym (span-long _ _ _ (omega arith) (c .before .before .if3 .left) (c .before .if4 .left) (omega arith))
 
 -- src/lib.rt:39:31
 sub-t9 : tie.Need-sub-t9
@@ -70,7 +70,7 @@ sub-t9 c = search needs
 
 -- src/lib.rt:18:1
 returns-6 : tie.Need-returns-6
-returns-6 c = sym (span-token _ _ _ (omega arith) (c .before .before .if3 .left) (c .before .if4 .left) (c .if5 .left))
+returns-6 c = sym (span-token _ _ _ (omega arith) (c .before .before .if3 .left) (c .before .if4 .left) (omega arith))
 
 pub lookup-spec : {M : Type 1} → statement M
 lookup-spec =

@@ -1,5 +1,5 @@
 use mathlib.Core.Path.{_≡_}
-use Prim.Native.Nat.{_-_, _≤_, zero-le}
+use Prim.Native.Nat.{_-_, _≤_}
 use native.Mathlib.Omega.{arith}
 use Rattle.decoding.specs.Measured.{tokens}
 use Rattle.decoding.proofs.Decode.{next-token, Written, written-none, written-more, written-all}
@@ -18,7 +18,7 @@ abbrev μ-loop : tie.MeasureT-loop
 
 -- src/lib.rt:123:5
 loop-holds : tie.Need-loop-holds Inv-loop μ-loop
-loop-holds c = (zero-le, written-none _ _ _ _)
+loop-holds c = (omega arith, written-none _ _ _ _)
 
 -- src/lib.rt:124:37
 mul-part-of : tie.Need-mul-part-of Inv-loop μ-loop
