@@ -12,6 +12,7 @@ use borrow.Author.Tests.{le-ltb}
 use Rattle.spec.specs.Lists.{over}
 use Rattle.spec.specs.Memory.{Memory, memory, tooShort, emptied}
 use Rattle.laws.specs.Reads.{LongEnough}
+use Rattle.builder.specs.Finish.{same-memory}
 
 -- n cells from the start
 front : {A : Type 0} (l : List A) (n : ℕ) (v : A) → n ≤ length l → sets l 0 (replicate n v) ≡ over (replicate n v) l
@@ -27,11 +28,6 @@ whole l =
     ∙ ap (λ (x : ℕ). replicate (length l) 0 ++ drop x l) (length-replicate (length l) 0)
     ∙ ap (λ (x : List ℕ). replicate (length l) 0 ++ x) (drop-length l)
     ∙ append-nil (replicate (length l) 0)
-
-module _ {s s′ : List ℤ} {os os′ bl bl′ rs rs′ tb tb′ : List ℕ} where
-  -- two memories with the same parts
-  pub same-memory : s ≡ s′ → os ≡ os′ → bl ≡ bl′ → rs ≡ rs′ → tb ≡ tb′ → memory s os bl rs tb ≡ memory s′ os′ bl′ rs′ tb′
-  same-memory a b c d e = cc
 
 module _ (s : List ℤ) (os bl rs tb : List ℕ) (long : LongEnough (memory s os bl rs tb)) where
   pub all-emptied : {s′ : List ℤ} {os′ bl′ rs′ tb′ : List ℕ} → s′ ≡ sets s 0 (replicate 256 (negsuc 0)) → os′ ≡ sets os 0 (replicate 65537 0)

@@ -15,7 +15,7 @@ use Rattle.spec.specs.Lists.{over, upFrom}
 use Rattle.spec.specs.Token.{Token, idOf, seen}
 use Rattle.spec.specs.Layout.{tableWords}
 use Rattle.spec.specs.Valid.{Valid}
-use Rattle.spec.specs.Memory.{lengthBefore, singleList, offsetList, blobBytes, rootList, tableList, padded}
+use Rattle.spec.specs.Memory.{memory, lengthBefore, singleList, offsetList, blobBytes, rootList, tableList, padded}
 use Rattle.spec.specs.Load.{Room, tableRoom, lastId, nowhere, byte, Outcome, accepted, refused, missing, demanded, finish}
 use Rattle.laws.specs.Tests.{Tested, either}
 use Rattle.laws.specs.Reads.{offset-length}
@@ -37,6 +37,11 @@ use Rattle.builder.specs.declared.Finished.the-variants as Finished
 -- the first n cells are new, and those behind them are l₀'s
 pub over-of : {A : Type 0} (n : ℕ) (l new l₀ : List A) → take n l ≡ new → length new ≡ n → drop n l ≡ drop n l₀ → l ≡ over new l₀
 over-of {A} n l new l₀ a b c = sym (take-append-drop n l) ∙ ap₂ (λ (x y : List A). x ++ y) a (c ∙ ap (λ (k : ℕ). drop k l₀) (sym b))
+
+module _ {s s′ : List ℤ} {os os′ bl bl′ rs rs′ tb tb′ : List ℕ} where
+  -- two memories with the same parts
+  pub same-memory : s ≡ s′ → os ≡ os′ → bl ≡ bl′ → rs ≡ rs′ → tb ≡ tb′ → memory s os bl rs tb ≡ memory s′ os′ bl′ rs′ tb′
+  same-memory a b c d e = cc
 
 -- ---- a byte that is missing
 

@@ -87,7 +87,7 @@ last-most low (t ∷ v ∷ ts) r u (there m) = last-most (t .id) (v ∷ ts) (r .
 
 -- ---- the nodes of a token
 
-count-more : (ts : List Token) → 1 ≤ nodeCount ts
+pub count-more : (ts : List Token) → 1 ≤ nodeCount ts
 unfolding nodeCount
 count-more ts = omega arith
 

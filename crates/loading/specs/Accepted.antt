@@ -151,7 +151,7 @@ line-valid room ts l more v h e =
     let a = admit-passes room ts t more q in
     subst Valid (sym (a .more-is)) (valid-snoc ts t v (read-passes (lastId ts) l t h p) (a .new))
 
-accepted≢refused : (ts : List Token) (n : ℕ) (p : Place) → refused n p ≡ accepted ts → ⊥
+pub accepted≢refused : (ts : List Token) (n : ℕ) (p : Place) → refused n p ≡ accepted ts → ⊥
 accepted≢refused ts n p e = let z : _≡_ {A = ℕ} 0 1 = cc in omega arith
 
 -- what an accepted end says of its tokens

@@ -20,9 +20,9 @@ use Rattle.spec.specs.Load.{Room, idRule, lengthRule, readToken, readFields, re
 use Rattle.spec.specs.Theorems.{LoadsLoaded}
 use Rattle.laws.specs.Reads.{loaded}
 use Rattle.loading.specs.Checks.{Numbered, pass-numbered, need-numbered, given-numbered, then-numbered}
-use Rattle.loading.specs.Accepted.{load-accepts}
+use Rattle.loading.specs.Accepted.{accepted≢refused, load-accepts}
 
--- ---- no refusal has number 0
+-- ---- a line is refused with 3 or more
 
 fields-numbered : (l : List ℕ) → Numbered (fields l)
 unfolding fields
@@ -51,47 +51,55 @@ line-numbered room ts l =
     (then-numbered (fields l) (readFields (lastId ts)) (fields-numbered l) (fields-read (lastId ts)))
     (λ t. need-numbered _ _ _ (omega arith) (need-numbered _ _ _ (omega arith) (need-numbered _ _ _ (omega arith) (pass-numbered _))))
 
--- ---- what an accepted answer says
+-- ---- what an outcome's number says
+
+finish-refused : (partial : Bool) (room : Room) (ts : List Token) (n : ℕ) (p : Place) → finish partial room ts ≡ refused n p → 3 ≤ n
+unfolding finish
+finish-refused partial room [] n p e = let z : 19 ≡ n = cc in omega arith
+finish-refused partial room (t ∷ ts) n p e = go (demanded partial (missing (t ∷ ts) 256 0)) e
+  where
+    at : (c : Bool) → cond c (accepted (t ∷ ts)) (refused 21 nowhere) ≡ refused n p → 3 ≤ n
+    at true e = absurd (accepted≢refused (t ∷ ts) n p (sym e))
+    at false e = let z : 21 ≡ n = cc in omega arith
+
+    go : (o : Option ℕ)
+        → elim o [
+            some b ↦ refused 20 (byte b)
+          | none ↦ cond (leb (tableWords (t ∷ ts)) (room .table)) (accepted (t ∷ ts)) (refused 21 nowhere) ] ≡ refused n p
+        → 3 ≤ n
+    go (some b) e = let z : 20 ≡ n = cc in omega arith
+    go none e = at (leb (tableWords (t ∷ ts)) (room .table)) e
+
+lines-refused : (partial : Bool) (room : Room) (k : ℕ) (ts : List Token) (ls : List (List ℕ)) (n : ℕ) (p : Place)
+    → takeLines partial room k ts ls ≡ refused n p → 3 ≤ n
+unfolding takeLines
+lines-refused partial room k ts [] n p e = finish-refused partial room ts n p e
+lines-refused partial room k ts (l ∷ ls) n p e =
+    go (takeLine room ts l) (line-numbered room ts l) e (λ more. lines-refused partial room (suc k) more ls n p)
+  where
+    go : (c : Check (List Token)) → Numbered c
+        → elim c [ pass more ↦ takeLines partial room (suc k) more ls | refuse number ↦ refused number (line k) ] ≡ refused n p
+        → ((more : List Token) → takeLines partial room (suc k) more ls ≡ refused n p → 3 ≤ n) → 3 ≤ n
+    go (pass more) h e r = r more e
+    go (refuse number) h e r = let z : number ≡ n = cc in let b = h .above number refl in omega arith
+
+-- A text that is read is refused with 3 to 21, never with 0, 1 or 2.
+pub load-refused : (partial : Bool) (room : Room) (text : List ℕ) (n : ℕ) (p : Place) → load partial room text ≡ refused n p → 3 ≤ n
+unfolding load
+load-refused partial room text n p e = lines-refused partial room 1 [] (lines text) n p e
 
 -- the number of an outcome is 0 just where it is accepted
 abbrev numberOf : Outcome → ℕ
 numberOf (accepted ts) = 0
 numberOf (refused n p) = n
 
-finish-accepted : (partial : Bool) (room : Room) (ts : List Token) → numberOf (finish partial room ts) ≡ 0 → (us : List Token) × (finish partial room ts ≡ accepted us)
-unfolding finish
-finish-accepted partial room [] e = absurd (omega arith)
-finish-accepted partial room (t ∷ ts) e = go (demanded partial (missing (t ∷ ts) 256 0)) e
-  where
-    at : (c : Bool) → numberOf (cond c (accepted (t ∷ ts)) (refused 21 nowhere)) ≡ 0 → (us : List Token) × (cond c (accepted (t ∷ ts)) (refused 21 nowhere) ≡ accepted us)
-    at true e = (t ∷ ts, refl)
-    at false e = absurd (omega arith)
-
-    go : (o : Option ℕ)
-        → numberOf (elim o [ some b ↦ refused 20 (byte b) | none ↦ cond (leb (tableWords (t ∷ ts)) (room .table)) (accepted (t ∷ ts)) (refused 21 nowhere) ]) ≡ 0
-        → (us : List Token) × (elim o [ some b ↦ refused 20 (byte b) | none ↦ cond (leb (tableWords (t ∷ ts)) (room .table)) (accepted (t ∷ ts)) (refused 21 nowhere) ] ≡ accepted us)
-    go (some b) e = absurd (omega arith)
-    go none e = at (leb (tableWords (t ∷ ts)) (room .table)) e
-
-lines-accepted : (partial : Bool) (room : Room) (n : ℕ) (ts : List Token) (ls : List (List ℕ)) → numberOf (takeLines partial room n ts ls) ≡ 0
-    → (us : List Token) × (takeLines partial room n ts ls ≡ accepted us)
-unfolding takeLines
-lines-accepted partial room n ts [] e = finish-accepted partial room ts e
-lines-accepted partial room n ts (l ∷ ls) e = go (takeLine room ts l) (line-numbered room ts l) e (λ more. lines-accepted partial room (suc n) more ls)
-  where
-    after : Check (List Token) → Outcome
-    after c = elim c [ pass more ↦ takeLines partial room (suc n) more ls | refuse number ↦ refused number (line n) ]
-
-    go : (c : Check (List Token)) → Numbered c → numberOf (after c) ≡ 0
-        → ((more : List Token) → numberOf (takeLines partial room (suc n) more ls) ≡ 0 → (us : List Token) × (takeLines partial room (suc n) more ls ≡ accepted us))
-        → (us : List Token) × (after c ≡ accepted us)
-    go (pass more) h e r = r more e
-    go (refuse number) h e r = let k = h .above number refl in absurd (omega arith)
-
 pub load-accepted : (partial : Bool) (room : Room) (text : List ℕ) → numberOf (load partial room text) ≡ 0
     → (ts : List Token) × (load partial room text ≡ accepted ts)
-unfolding load
-load-accepted partial room text e = lines-accepted partial room 1 [] (lines text) e
+load-accepted partial room text e = go (load partial room text) refl e
+  where
+    go : (o : Outcome) → load partial room text ≡ o → numberOf o ≡ 0 → (ts : List Token) × (o ≡ accepted ts)
+    go (accepted ts) q e = (ts, refl)
+    go (refused n p) q e = let b = load-refused partial room text n p q in absurd (omega arith)
 
 -- ---- the memory that it leaves
 

@@ -1,0 +1,62 @@
+-- `vocabulary::settle` meets its contract. Assumes nothing.
+use borrow.Author.Needs.{needs}
+use mathlib.Core.Path.{sym, ap, _∙_}
+use Rattle.spec.specs.Memory.{memory}
+use Rattle.vocabulary.specs.Answers.{leftBy}
+use Rattle.vocabulary.specs.declared.Load.{Load}
+use Rattle.vocabulary.proofs.settle.Statement.{statement}
+use Rattle.vocabulary.proofs.settle.Tie as tie
+
+enum-told : tie.Need-enum-told
+enum-told c = search needs
+
+enum-told-2 : tie.Need-enum-told-2
+enum-told-2 c = search needs
+
+empty-requires : tie.Need-empty-requires
+empty-requires c κs = c .before .before .before .before .before .before .before .before .before .before .before .pre
+
+returns : tie.Need-returns
+returns c =
+    let a = c .before .before .before .before .before .before .args in
+    ap (λ (x : Load). leftBy x (memory (a .single .now) (a .offsets .now) (a .blob .now) (a .roots .now) (a .table .now))) (sym (c
+    .enum-told .given .1))
+
+same-length : tie.Need-same-length
+same-length c = c .before .before .before .before .before .before .before .before .before .empty .kept .0
+
+same-length-2 : tie.Need-same-length-2
+same-length-2 c = c .before .before .before .before .before .before .before .before .before .empty .kept .1 .0
+
+same-length-3 : tie.Need-same-length-3
+same-length-3 c = c .before .before .before .before .before .before .before .before .before .empty .kept .1 .1 .0
+
+same-length-4 : tie.Need-same-length-4
+same-length-4 c = c .before .before .before .before .before .before .before .before .before .empty .kept .1 .1 .1 .0
+
+same-length-5 : tie.Need-same-length-5
+same-length-5 c = c .before .before .before .before .before .before .before .before .before .empty .kept .1 .1 .1 .1 .0
+
+returns-2 : tie.Need-returns-2
+returns-2 c =
+    let a = c .before .before .before .before .before .before .before .before .before .before .before .before .before .before .before
+    .before .before .before .before .before .before .args in
+    c .before .before .before .before .before .before .before .before .before .empty .ensures
+    ∙ ap (λ (x : Load). leftBy x (memory (a .single .now) (a .offsets .now) (a .blob .now) (a .roots .now) (a .table .now))) (sym (c
+    .before .before .before .before .before .before .before .before .before .before .before .before .before .before .before
+    .enum-told2 .given .1))
+
+pub settle-spec : {M : Type 1} → statement M
+settle-spec =
+    tie.close
+    (tie.spec
+    enum-told
+    enum-told-2
+    empty-requires
+    returns
+    same-length
+    same-length-2
+    same-length-3
+    same-length-4
+    same-length-5
+    returns-2)
