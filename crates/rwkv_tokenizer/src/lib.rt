@@ -2,4 +2,5 @@
 // carries, and 0 for those that it does not.
 mod decode;
 mod encode;
+mod load;
 mod report;
