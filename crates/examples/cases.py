@@ -3,7 +3,8 @@
 
 Nothing here is taken from the code. What a literal stands for is what Python's own reader makes of it, where document 01 takes
 the literal at all; which ones it takes is one pattern. `\\0` is the one place where both take a literal and differ: it is given to
-Python as `\\x00`. Lines, fields and numbers are split and read by Python's means.
+Python as `\\x00`. Lines, fields and numbers are split and read by Python's means. What is UTF-8, and lossy text, is what Python's own
+decoder says.
 """
 import ast
 import os
@@ -62,7 +63,64 @@ def shown(parts):
     return "".join("[%s]" % part.hex() for part in parts)
 
 
+def good(text):
+    """How many bytes stand before the first that is not UTF-8."""
+    try:
+        text.decode("utf-8")
+        return len(text)
+    except UnicodeDecodeError as error:
+        return error.start
+
+
+def runs(start):
+    """Each run of last bytes after `start` that give the same."""
+    found = []
+    for last in range(256):
+        n = good(start + bytes([last]))
+        if found and found[-1][1] == n:
+            found[-1][0][1] = last
+        else:
+            found.append(([last, last], n))
+    return "".join("%s%d" % (shown([bytes(ends)]), n) for ends, n in found)
+
+
+V = {1: b"a", 2: b"b", 3: b"ab", 4: b"abcd", 5: b"bc"}
+EACH = {byte: bytes([byte]) for byte in range(256)}
+
+
+def decoded(kind, tokens, cells, ids):
+    """The bytes that a decoding leaves in the output, and its refusal."""
+    out = b""
+    for index, i in enumerate(ids):
+        if i not in tokens:
+            return (b"" if kind == "Y" else out), " refused 27 at %d id %d" % (index, i)
+        if kind != "Y" and len(out + tokens[i]) > cells:
+            return out, " refused 28 at %d" % index
+        out += tokens[i]
+    if kind == "X" and good(out) < len(out):
+        return out, " refused 29 at %d" % good(out)
+    if kind == "Y":
+        text = out.decode("utf-8", "replace").encode("utf-8")
+        return (b"", " refused 28 at %d" % len(ids)) if len(text) > cells else (text, "")
+    return out, ""
+
+
+def decoding(kind, case):
+    memory, cells = case[:2]
+    if memory == 1:
+        return "refused 1 " + shown([b"." * cells])
+    ids = [int.from_bytes(case[at:at + 3], "big") for at in range(2, len(case), 3)]
+    out, refusal = decoded(kind, EACH if memory else V, cells, ids)
+    return "%d%s %s" % (len(out), refusal, shown([out.ljust(cells, b".")]))
+
+
 def answer(kind, case):
+    if kind == "U":
+        return str(good(case))
+    if kind == "S":
+        return runs(case)
+    if kind in "DXY":
+        return decoding(kind, case)
     if kind == "L":
         value = literal(case)
         return "refused 12" if value is None else shown([value])
@@ -126,6 +184,37 @@ def cases():
                  b"4294967294", b"18446744073709551614", b"18446744073709551615", b"18446744073709551616", b"99999999999999999999"):
         yield "I", text
         yield "N", text
+
+
+    # UTF-8: all two-byte sequences by their first byte, and the edges of three- and four-byte ones
+    edges = (0x7f, 0x80, 0x8f, 0x90, 0x9f, 0xa0, 0xbf, 0xc0)
+    for byte in range(256):
+        yield "S", bytes([byte])
+    for lead in range(0xe0, 0xf0):
+        for second in edges:
+            yield "S", bytes([lead, second])
+    for lead in (0xf0, 0xf1, 0xf3, 0xf4, 0xf5, 0xf8):
+        for second in edges:
+            for third in (0x7f, 0x80, 0xbf, 0xc0):
+                yield "S", bytes([lead, second, third])
+    for text in (b"", b"ab", b"ab\xff", b"\x80", b"\xc0\x80", b"\xe0\x80\x80", b"\xf0\x80\x80\x80", b"\xed\xa0\x80\xed\xb0\x80",
+                 b"\xf4\x90\x80\x80", b"a\xe2\x82b", b"\xf0\x9f\x98\x80x\x80"):
+        yield "U", text
+    for end in range(1, 11):
+        yield "U", "é€𝄞a".encode()[:end]
+    # document 01's decodings, and number 1
+    def ids(memory, cells, *numbers):
+        return bytes([memory, cells]) + b"".join(i.to_bytes(3, "big") for i in numbers)
+    for kind in "DXY":
+        for numbers in ((4, 1), (3, 0), (6,), (65536,), (), (5, 65535, 4), (16777215,)):
+            yield kind, ids(0, 8, *numbers)
+        yield kind, ids(1, 8, 4, 1)
+    # outputs of every size: V's bytes, V's bytes before an id that is absent, text, and what is not UTF-8 (Unicode, table 3-8)
+    for kind in "DXY":
+        for memory, full, numbers in ((0, 9, (3, 4, 1, 5)), (0, 6, (3, 4, 0)), (2, 9, "é€𝄞".encode()), (2, 3, (0, 255, 256)),
+                                      (2, 22, b"a\xf1\x80\x80\xe1\x80\xc2b\x80c\x80\xbfd"), (2, 7, b"\xc3a\xf0\x9f\x98")):
+            for cells in range(full + 2):
+                yield kind, ids(memory, cells, *numbers)
 
 
 def main():

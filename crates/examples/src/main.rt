@@ -1,6 +1,7 @@
-// Runs the leaves of loading on the cases of standard input, one to a line, and writes each with its answer. A case is a letter for what
-// is asked, a space, and bytes in hexadecimal: L a literal, F the fields of a vocabulary line, T the lines of a text, I an id, N a length.
-// `cases.py` makes the cases and, by Python's own means, the answers.
+// Runs the leaves of loading and the decodings on the cases of standard input, one to a line, and writes each with its answer. A case is
+// a letter for what is asked, a space, and bytes in hexadecimal: L a literal, F the fields of a vocabulary line, T the lines of a text,
+// I an id, N a length, U the beginning of a byte string that is UTF-8, S the same for a beginning and each last byte; D, X and Y ids to
+// decode to bytes, text and lossy text. `cases.py` makes the cases and, by Python's own means, the answers.
 use libc::STDIN_FILENO;
 use libc::STDOUT_FILENO;
 use line::Fields;
@@ -10,7 +11,10 @@ use literal::Number;
 ghost use Prim.Native.Nat.{_+_, _<_, _≤_};
 ghost use lib.ListN.{length};
 
-fn write(text: &[u8]) {
+mod decode;
+mod runs;
+
+pub fn write(text: &[u8]) {
     io::write_all(STDOUT_FILENO, text);
 }
 
@@ -19,7 +23,7 @@ fn wide(b: u8) -> u64 {
 }
 
 // Bytes in hexadecimal, in brackets.
-fn write_bytes(bytes: &[u8]) {
+pub fn write_bytes(bytes: &[u8]) {
     write(b"[");
     let mut i = 0;
     while i < bytes.len() {
@@ -29,7 +33,7 @@ fn write_bytes(bytes: &[u8]) {
     write(b"]");
 }
 
-fn write_number(n: u64) {
+pub fn write_number(n: u64) {
     io::print_decimal(STDOUT_FILENO, n);
 }
 
@@ -90,6 +94,9 @@ fn answer(kind: u8, bytes: &[u8]) {
         b'T' => lines_case(bytes),
         b'I' => number_case(bytes, 4294967295, 6),
         b'N' => number_case(bytes, 18446744073709551615, 11),
+        b'U' => write_number(runs::good(bytes) as u64),
+        b'S' => runs::runs_case(bytes),
+        b'D' | b'X' | b'Y' => decode::decode_case(kind, bytes),
         _ => write(b"?"),
     }
 }

@@ -31,17 +31,23 @@ returns c = search needs
 
 sub-one-case : tie.Need-sub-one-case Inv-loop μ-loop
 sub-one-case c =
-    let g = walk-goes (c .before .before .before .before .before .before .before .args .input .now) (c .before .before .before .before .before .loop .at) _ _ (sym (c .before .end .given .1) ∙ c .before .before .before .next-line .ensures) in
+    let g = walk-goes (c .before .before .before .before .before .before .before .args .input .now)
+    (c .before .before .before .before .before .loop .at) _ _ (sym (c .before .end .given .1) ∙
+    c .before .before .before .next-line .ensures) in
     omega arith
 
 part-one-case-start : tie.Need-part-one-case-start Inv-loop μ-loop
 part-one-case-start c =
-    let g = walk-goes (c .before .before .before .before .before .before .before .args .input .now) (c .before .before .before .before .before .loop .at) _ _ (sym (c .before .end .given .1) ∙ c .before .before .before .next-line .ensures) in
+    let g = walk-goes (c .before .before .before .before .before .before .before .args .input .now)
+    (c .before .before .before .before .before .loop .at) _ _ (sym (c .before .end .given .1) ∙
+    c .before .before .before .next-line .ensures) in
     omega arith
 
 part-one-case-end : tie.Need-part-one-case-end Inv-loop μ-loop
 part-one-case-end c =
-    let g = walk-goes (c .before .before .before .before .before .before .before .args .input .now) (c .before .before .before .before .before .loop .at) _ _ (sym (c .before .end .given .1) ∙ c .before .before .before .next-line .ensures) in
+    let g = walk-goes (c .before .before .before .before .before .before .before .args .input .now)
+    (c .before .before .before .before .before .loop .at) _ _ (sym (c .before .end .given .1) ∙
+    c .before .before .before .next-line .ensures) in
     omega arith
 
 one-case-requires : tie.Need-one-case-requires Inv-loop μ-loop
@@ -49,12 +55,16 @@ one-case-requires c κs = search needs
 
 loop-less : tie.Need-loop-less Inv-loop μ-loop
 loop-less c =
-    let g = walk-goes (c .before .before .before .before .before .before .before .before .before .args .input .now) (c .before .before .before .before .before .before .before .loop .at) _ _ (sym (c .before .before .before .end .given .1) ∙ c .before .before .before .before .before .next-line .ensures) in
+    let g = walk-goes (c .before .before .before .before .before .before .before .before .before .args .input .now)
+    (c .before .before .before .before .before .before .before .loop .at) _ _ (sym (c .before .before .before .end .given .1) ∙
+    c .before .before .before .before .before .next-line .ensures) in
     omega arith
 
 loop-again : tie.Need-loop-again Inv-loop μ-loop
 loop-again c =
-    let g = walk-goes (c .before .before .before .before .before .before .before .before .before .args .input .now) (c .before .before .before .before .before .before .before .loop .at) _ _ (sym (c .before .before .before .end .given .1) ∙ c .before .before .before .before .before .next-line .ensures) in
+    let g = walk-goes (c .before .before .before .before .before .before .before .before .before .args .input .now)
+    (c .before .before .before .before .before .before .before .loop .at) _ _ (sym (c .before .before .before .end .given .1) ∙
+    c .before .before .before .before .before .next-line .ensures) in
     omega arith
 
 returns-2 : tie.Need-returns-2 Inv-loop μ-loop

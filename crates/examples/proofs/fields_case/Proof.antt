@@ -15,7 +15,8 @@ enum-known-first c = search needs
 
 slice-aggregate-write-bytes : tie.Need-slice-aggregate-write-bytes
 slice-aggregate-write-bytes c =
-    let w = subst (Within (c .before .before .before .before .before .before .args .text .now)) (c .before .before .first .given .1) (c .before .before .before .before .split-fields .ensures .1) in
+    let w = subst (Within (c .before .before .before .before .before .before .args .text .now)) (c .before .before .first .given .1)
+    (c .before .before .before .before .split-fields .ensures .1) in
     sym (length-take-le _ _ (omega arith))
 
 write-bytes-requires : tie.Need-write-bytes-requires
@@ -23,22 +24,26 @@ write-bytes-requires c κs = search needs
 
 add-write-bytes : tie.Need-add-write-bytes
 add-write-bytes c =
-    let w = subst (Within (c .before .before .before .before .before .before .before .args .text .now)) (c .before .before .before .first .given .1) (c .before .before .before .before .before .split-fields .ensures .1) in
+    let w = subst (Within (c .before .before .before .before .before .before .before .args .text .now))
+    (c .before .before .before .first .given .1) (c .before .before .before .before .before .split-fields .ensures .1) in
     omega arith
 
 sub-write-bytes : tie.Need-sub-write-bytes
 sub-write-bytes c =
-    let w = subst (Within (c .before .before .before .before .before .before .before .args .text .now)) (c .before .before .before .first .given .1) (c .before .before .before .before .before .split-fields .ensures .1) in
+    let w = subst (Within (c .before .before .before .before .before .before .before .args .text .now))
+    (c .before .before .before .first .given .1) (c .before .before .before .before .before .split-fields .ensures .1) in
     omega arith
 
 part-write-bytes-start : tie.Need-part-write-bytes-start
 part-write-bytes-start c =
-    let w = subst (Within (c .before .before .before .before .before .before .before .args .text .now)) (c .before .before .before .first .given .1) (c .before .before .before .before .before .split-fields .ensures .1) in
+    let w = subst (Within (c .before .before .before .before .before .before .before .args .text .now))
+    (c .before .before .before .first .given .1) (c .before .before .before .before .before .split-fields .ensures .1) in
     omega arith
 
 part-write-bytes-end : tie.Need-part-write-bytes-end
 part-write-bytes-end c =
-    let w = subst (Within (c .before .before .before .before .before .before .before .args .text .now)) (c .before .before .before .first .given .1) (c .before .before .before .before .before .split-fields .ensures .1) in
+    let w = subst (Within (c .before .before .before .before .before .before .before .args .text .now))
+    (c .before .before .before .first .given .1) (c .before .before .before .before .before .split-fields .ensures .1) in
     omega arith
 
 write-bytes-requires-2 : tie.Need-write-bytes-requires-2
@@ -46,17 +51,23 @@ write-bytes-requires-2 c κs = search needs
 
 add-write-bytes-2 : tie.Need-add-write-bytes-2
 add-write-bytes-2 c =
-    let w = subst (Within (c .before .before .before .before .before .before .before .before .before .args .text .now)) (c .before .before .before .before .before .first .given .1) (c .before .before .before .before .before .before .before .split-fields .ensures .1) in
+    let w = subst (Within (c .before .before .before .before .before .before .before .before .before .args .text .now))
+    (c .before .before .before .before .before .first .given .1)
+    (c .before .before .before .before .before .before .before .split-fields .ensures .1) in
     omega arith
 
 sub-write-bytes-2 : tie.Need-sub-write-bytes-2
 sub-write-bytes-2 c =
-    let w = subst (Within (c .before .before .before .before .before .before .before .before .before .args .text .now)) (c .before .before .before .before .before .first .given .1) (c .before .before .before .before .before .before .before .split-fields .ensures .1) in
+    let w = subst (Within (c .before .before .before .before .before .before .before .before .before .args .text .now))
+    (c .before .before .before .before .before .first .given .1)
+    (c .before .before .before .before .before .before .before .split-fields .ensures .1) in
     omega arith
 
 part-write-bytes-start-2 : tie.Need-part-write-bytes-start-2
 part-write-bytes-start-2 c =
-    let w = subst (Within (c .before .before .before .before .before .before .before .before .before .args .text .now)) (c .before .before .before .before .before .first .given .1) (c .before .before .before .before .before .before .before .split-fields .ensures .1) in
+    let w = subst (Within (c .before .before .before .before .before .before .before .before .before .args .text .now))
+    (c .before .before .before .before .before .first .given .1)
+    (c .before .before .before .before .before .before .before .split-fields .ensures .1) in
     omega arith
 
 part-write-bytes-end-2 : tie.Need-part-write-bytes-end-2

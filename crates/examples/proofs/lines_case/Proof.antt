@@ -31,17 +31,23 @@ returns c = search needs
 
 sub-write-bytes : tie.Need-sub-write-bytes Inv-loop μ-loop
 sub-write-bytes c =
-    let g = walk-goes (c .before .before .before .before .before .before .before .args .text .now) (c .before .before .before .before .before .loop .at) _ _ (sym (c .before .end .given .1) ∙ c .before .before .before .next-line .ensures) in
+    let g = walk-goes (c .before .before .before .before .before .before .before .args .text .now)
+    (c .before .before .before .before .before .loop .at) _ _ (sym (c .before .end .given .1) ∙
+    c .before .before .before .next-line .ensures) in
     omega arith
 
 part-write-bytes-start : tie.Need-part-write-bytes-start Inv-loop μ-loop
 part-write-bytes-start c =
-    let g = walk-goes (c .before .before .before .before .before .before .before .args .text .now) (c .before .before .before .before .before .loop .at) _ _ (sym (c .before .end .given .1) ∙ c .before .before .before .next-line .ensures) in
+    let g = walk-goes (c .before .before .before .before .before .before .before .args .text .now)
+    (c .before .before .before .before .before .loop .at) _ _ (sym (c .before .end .given .1) ∙
+    c .before .before .before .next-line .ensures) in
     omega arith
 
 part-write-bytes-end : tie.Need-part-write-bytes-end Inv-loop μ-loop
 part-write-bytes-end c =
-    let g = walk-goes (c .before .before .before .before .before .before .before .args .text .now) (c .before .before .before .before .before .loop .at) _ _ (sym (c .before .end .given .1) ∙ c .before .before .before .next-line .ensures) in
+    let g = walk-goes (c .before .before .before .before .before .before .before .args .text .now)
+    (c .before .before .before .before .before .loop .at) _ _ (sym (c .before .end .given .1) ∙
+    c .before .before .before .next-line .ensures) in
     omega arith
 
 write-bytes-requires : tie.Need-write-bytes-requires Inv-loop μ-loop
@@ -49,12 +55,16 @@ write-bytes-requires c κs = search needs
 
 loop-less : tie.Need-loop-less Inv-loop μ-loop
 loop-less c =
-    let g = walk-goes (c .before .before .before .before .before .before .before .before .before .args .text .now) (c .before .before .before .before .before .before .before .loop .at) _ _ (sym (c .before .before .before .end .given .1) ∙ c .before .before .before .before .before .next-line .ensures) in
+    let g = walk-goes (c .before .before .before .before .before .before .before .before .before .args .text .now)
+    (c .before .before .before .before .before .before .before .loop .at) _ _ (sym (c .before .before .before .end .given .1) ∙
+    c .before .before .before .before .before .next-line .ensures) in
     omega arith
 
 loop-again : tie.Need-loop-again Inv-loop μ-loop
 loop-again c =
-    let g = walk-goes (c .before .before .before .before .before .before .before .before .before .args .text .now) (c .before .before .before .before .before .before .before .loop .at) _ _ (sym (c .before .before .before .end .given .1) ∙ c .before .before .before .before .before .next-line .ensures) in
+    let g = walk-goes (c .before .before .before .before .before .before .before .before .before .args .text .now)
+    (c .before .before .before .before .before .before .before .loop .at) _ _ (sym (c .before .before .before .end .given .1) ∙
+    c .before .before .before .before .before .next-line .ensures) in
     omega arith
 
 returns-2 : tie.Need-returns-2 Inv-loop μ-loop
