@@ -1,0 +1,78 @@
+/* The calls of librwkv_tokenizer.a, a tokenizer for RWKV models that is proved to meet its contracts.
+ *
+ * All memory is lent by the caller. A slice goes as a pointer, never null, and a length in cells; the calls touch no cell past
+ * it. What a call writes must not overlap anything else that it is given. The result is the number of the refusal, 0 if there
+ * is none. A report takes what the number carries; whatever a call does not carry is 0 in it.
+ *
+ * Every call:
+ *    1  a part of the vocabulary memory is too short
+ * Loading a text; 2 carries an offset, 3 to 18 a line counted from 1, 20 a byte:
+ *    2  the text is not UTF-8
+ *    3  the line is blank
+ *    4  no space
+ *    5  the spaces do not part id, literal and length
+ *    6  id not in digits, or above 4294967295
+ *    7  id above 65535
+ *    8  id 0
+ *    9  id equals the previous one
+ *   10  id below the previous one
+ *   11  length not in digits, or 2^64 or more
+ *   12  literal bad
+ *   13  token empty
+ *   14  token of another length than the line says
+ *   15  token longer than 255 bytes
+ *   16  token seen before
+ *   17  too few nodes
+ *   18  too few blob bytes
+ *   19  no lines
+ *   20  full mode: a byte has no token of its own
+ *   21  too few blocks in the table, or in a run of marks
+ * Encoding; 22 carries an offset and a byte, 23 an offset:
+ *   22  no token matches
+ *   23  too few cells for the ids
+ * Decoding; 27 carries an index and an id, 28 an index, 29 an offset:
+ *   27  no token has this id
+ *   28  too few cells for the bytes
+ *   29  the bytes are not UTF-8
+ *
+ * After 1 and 2 nothing has changed. After 3 to 21 the vocabulary memory is emptied. With 22, 23, 27, 28 and 29
+ * the ids or bytes made so far stand from the output's start, their number in the report.
+ */
+#ifndef RWKV_TOKENIZER_H
+#define RWKV_TOKENIZER_H
+
+#include <stdbool.h>
+#include <stddef.h>
+#include <stdint.h>
+
+/* The least lengths of the fixed parts of the vocabulary memory. The blob takes the bytes of all tokens; the table takes blocks
+ * of 256 words, and so do both runs of marks, 4 words each to a block. */
+#define RWKV_SINGLE 256
+#define RWKV_OFFSETS 65537
+#define RWKV_ROOTS 65536
+
+/* A trie node of the work memory is six numbers. */
+#define RWKV_NODE 6
+
+/* The vocabulary memory, shared: what every call but rwkv_load is given first. */
+#define RWKV_MEMORY                                                                                                        \
+    const int32_t *single, size_t single_len, const uint32_t *offsets, size_t offsets_len, const uint8_t *blob,           \
+        size_t blob_len, const uint64_t *roots, size_t roots_len, const uint64_t *table, size_t table_len
+
+/* Loads a vocabulary text into the vocabulary memory; nodes and marks are work memory.
+ * Report: place kind (0 none, 1 line, 2 offset, 3 byte), place, tokens, nodes, blob bytes, table words. */
+uint32_t rwkv_load(const uint8_t *text, size_t text_len, bool partial, int32_t *single, size_t single_len, uint32_t *offsets,
+                   size_t offsets_len, uint8_t *blob, size_t blob_len, uint64_t *roots, size_t roots_len, uint64_t *table,
+                   size_t table_len, uint32_t *nodes, size_t nodes_len, uint64_t *used, size_t used_len, uint64_t *used_bases,
+                   size_t used_bases_len, uint64_t report[6]);
+
+/* Encodes src. Report: count, offset, byte. */
+uint32_t rwkv_encode(RWKV_MEMORY, const uint8_t *src, size_t src_len, uint32_t *out, size_t out_len, uint64_t report[3]);
+
+/* Decode ids to bytes; to text, which must be UTF-8; to text with U+FFFD for what is not.
+ * Report: bytes written, index (29: the offset), id. */
+uint32_t rwkv_decode(RWKV_MEMORY, const uint32_t *ids, size_t ids_len, uint8_t *out, size_t out_len, uint64_t report[3]);
+uint32_t rwkv_decode_utf8(RWKV_MEMORY, const uint32_t *ids, size_t ids_len, uint8_t *out, size_t out_len, uint64_t report[3]);
+uint32_t rwkv_decode_lossy(RWKV_MEMORY, const uint32_t *ids, size_t ids_len, uint8_t *out, size_t out_len, uint64_t report[3]);
+
+#endif

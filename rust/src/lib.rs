@@ -1,0 +1,157 @@
+//! A tokenizer for RWKV models over a library whose every function is proved to meet its contract.
+//!
+//! The names are those of the crate that it was ported from, so that whoever uses that one changes the `use` line. This layer
+//! owns the memory that the library is lent, and turns its numbers into errors.
+//!
+//! ```
+//! use bombrezen::RwkvTokenizer;
+//!
+//! let tokenizer = RwkvTokenizer::from_vocab_str_partial("1 'a' 1\n2 'b' 1\n3 'ab' 2\n").unwrap();
+//! assert_eq!(tokenizer.encode("aab").unwrap(), [1, 3]);
+//! assert_eq!(tokenizer.decode_utf8(&[1, 3]).unwrap(), "aab");
+//! ```
+
+mod errors;
+#[rustfmt::skip]
+pub mod ffi;
+mod load;
+
+pub use errors::{DecodeError, EncodeError, Place, Refusal, VocabError, reason};
+use std::path::Path;
+use std::sync::Arc;
+
+/// Number of token ids (0..65536); id 0 is reserved.
+pub const VOCAB_SIZE: usize = 65_536;
+/// Token id 0 has no text; treat it as end-of-text.
+pub const RESERVED_TOKEN_ID: u32 = 0;
+/// A small full vocabulary: the 256 bytes, and words and phrases of radiotelephony.
+pub const PHRASEOLOGY: &str = include_str!("../../data/phraseology.txt");
+
+/// The counts of an accepted load.
+#[derive(Debug, Clone, Copy, PartialEq, Eq)]
+pub struct Counts {
+    /// Tokens, one a line.
+    pub tokens: u64,
+    /// Trie nodes: distinct prefixes of two or more bytes, and one.
+    pub nodes: u64,
+    /// Bytes of all tokens.
+    pub blob_bytes: u64,
+    /// Words of the packed trie.
+    pub table_words: u64,
+}
+
+/// Greedy longest-match RWKV World tokenizer. Cloning shares the vocabulary.
+#[derive(Debug, Clone)]
+pub struct RwkvTokenizer {
+    tables: Arc<load::Tables>,
+    partial: bool,
+}
+
+impl RwkvTokenizer {
+    /// Loads a vocabulary file; same rules as [`Self::from_vocab_str`].
+    pub fn from_file(path: &Path) -> Result<Self, VocabError> {
+        let text = std::fs::read(path).map_err(|source| VocabError::Io { path: path.to_path_buf(), source })?;
+        Self::from_vocab_bytes(&text, false)
+    }
+
+    /// Loads a normal vocabulary: every byte must have a token of its own.
+    pub fn from_vocab_str(text: &str) -> Result<Self, VocabError> {
+        Self::from_vocab_bytes(text.as_bytes(), false)
+    }
+
+    /// Explicit partial-vocabulary mode: bytes without a token of their own are allowed, and encoding reports the first it meets.
+    pub fn from_vocab_str_partial(text: &str) -> Result<Self, VocabError> {
+        Self::from_vocab_bytes(text.as_bytes(), true)
+    }
+
+    /// Loads a text that need not be UTF-8 and is refused with number 2 if it isn't.
+    pub fn from_vocab_bytes(text: &[u8], partial: bool) -> Result<Self, VocabError> {
+        let tables = Arc::new(load::load(text, partial).map_err(VocabError::Invalid)?);
+        Ok(Self { tables, partial })
+    }
+
+    /// Always [`VOCAB_SIZE`].
+    pub fn vocab_size(&self) -> usize {
+        VOCAB_SIZE
+    }
+
+    /// True if loaded as partial.
+    pub fn is_partial(&self) -> bool {
+        self.partial
+    }
+
+    /// The counts of the load.
+    pub fn counts(&self) -> Counts {
+        self.tables.counts
+    }
+
+    /// The vocabulary memory, as the library's calls take it.
+    pub fn memory(&self) -> ffi::Memory<'_> {
+        let t = &*self.tables;
+        ffi::Memory { single: &t.single, offsets: &t.offsets, blob: &t.blob, roots: &t.roots, table: &t.table }
+    }
+
+    /// Encodes text.
+    pub fn encode(&self, src: &str) -> Result<Vec<u32>, EncodeError> {
+        self.encode_bytes(src.as_bytes())
+    }
+
+    /// Encodes any bytes; fails only on a partial vocabulary.
+    pub fn encode_bytes(&self, src: &[u8]) -> Result<Vec<u32>, EncodeError> {
+        let mut out = vec![0; src.len()];
+        let (number, [count, offset, byte]) = ffi::encode(self.memory(), src, &mut out);
+        match number {
+            0 => {
+                out.truncate(count as usize);
+                Ok(out)
+            }
+            22 => Err(EncodeError { byte_offset: offset as usize, byte: byte as u8 }),
+            number => unreachable!("memory and output of full length were refused: {}", reason(number)),
+        }
+    }
+
+    /// Joins the tokens' bytes; fails on an id without a token.
+    pub fn decode_bytes(&self, tokens: &[u32]) -> Result<Vec<u8>, DecodeError> {
+        self.decode(ffi::Decoding::Bytes, tokens)
+    }
+
+    /// Decodes to text; fails on an id without a token and on bytes that are not UTF-8.
+    pub fn decode_utf8(&self, tokens: &[u32]) -> Result<String, DecodeError> {
+        self.decode(ffi::Decoding::Text, tokens).map(text_of)
+    }
+
+    /// Decodes to text with U+FFFD for each ill-formed part; fails only on an id without a token.
+    pub fn decode_lossy(&self, tokens: &[u32]) -> Result<String, DecodeError> {
+        self.decode(ffi::Decoding::Lossy, tokens).map(text_of)
+    }
+
+    /// Decodes with room for tokens of eight bytes, and, where the library says that this is too little, with the most needed.
+    fn decode(&self, how: ffi::Decoding, tokens: &[u32]) -> Result<Vec<u8>, DecodeError> {
+        let mut out = vec![0; 8 * tokens.len()];
+        let mut answer = ffi::decode(self.memory(), how, tokens, &mut out);
+        if answer.0 == 28 {
+            out = vec![0; self.most_bytes(tokens)];
+            answer = ffi::decode(self.memory(), how, tokens, &mut out);
+        }
+        let (number, [len, index, id]) = answer;
+        out.truncate(len as usize);
+        match number {
+            0 => Ok(out),
+            27 => Err(DecodeError::MissingToken { token_index: index as usize, token_id: id as u32 }),
+            29 => Err(DecodeError::InvalidUtf8(String::from_utf8(out).expect_err("the library's contract says that it is not"))),
+            number => unreachable!("memory and output of full length were refused: {}", reason(number)),
+        }
+    }
+
+    /// As many bytes as these tokens can decode to: U+FFFD takes three, and may stand for one.
+    fn most_bytes(&self, tokens: &[u32]) -> usize {
+        let offsets = &self.tables.offsets;
+        let len = |&id: &u32| offsets.get(id as usize..id as usize + 2).map_or(0, |pair| pair[1] - pair[0]);
+        3 * tokens.iter().map(|id| len(id) as usize).sum::<usize>()
+    }
+}
+
+/// The same bytes as text. They are looked through once more, since a `String` made without that asks for unsafe code.
+fn text_of(bytes: Vec<u8>) -> String {
+    String::from_utf8(bytes).expect("the library's contract says that these bytes are UTF-8")
+}

@@ -1,0 +1,203 @@
+//! The command: encode, decode and check from a terminal.
+use bombrezen::{PHRASEOLOGY, Place, Refusal, RwkvTokenizer, VocabError};
+use std::fmt::Write as _;
+use std::io::{self, Read, Write};
+use std::os::unix::ffi::OsStringExt;
+use std::process::ExitCode;
+
+const USAGE: &str = "\
+usage: bombrezen COMMAND [OPTIONS]
+  encode [TEXT]    the ids of a text
+  decode [ID ..]   the bytes of ids
+  check FILE       load a vocabulary: its counts, or why it is refused
+encode and decode read standard input where nothing is given.
+options:
+  --vocab FILE     this vocabulary, and not the small one of radio phraseology
+  --partial        allow a vocabulary in which bytes have no token of their own
+  --show           show the text too, with | between its tokens
+  --text           decode: refuse bytes that are not UTF-8
+  --lossy          decode: put U+FFFD for what is not UTF-8";
+
+/// What went wrong, for the user, and the exit status.
+struct Failure {
+    message: String,
+    status: u8,
+}
+
+fn refused(message: impl ToString) -> Failure {
+    Failure { message: message.to_string(), status: 1 }
+}
+
+fn misused(message: impl ToString) -> Failure {
+    Failure { message: format!("{}\n{USAGE}", message.to_string()), status: 2 }
+}
+
+impl From<io::Error> for Failure {
+    fn from(error: io::Error) -> Self {
+        refused(error)
+    }
+}
+
+/// The command line, taken apart.
+#[derive(Default)]
+struct Options {
+    vocab: Option<String>,
+    partial: bool,
+    show: bool,
+    text: bool,
+    lossy: bool,
+    words: Vec<Vec<u8>>,
+}
+
+fn main() -> ExitCode {
+    match options().and_then(|(command, options)| run(&command, &options)) {
+        Ok(()) => ExitCode::SUCCESS,
+        Err(failure) => {
+            eprintln!("bombrezen: {}", failure.message);
+            ExitCode::from(failure.status)
+        }
+    }
+}
+
+fn run(command: &str, options: &Options) -> Result<(), Failure> {
+    match command {
+        "encode" => encode(options),
+        "decode" => decode(options),
+        "check" => check(options),
+        "help" | "--help" | "-h" => {
+            println!("{USAGE}");
+            Ok(())
+        }
+        other => Err(misused(format!("there is no command {other:?}"))),
+    }
+}
+
+/// The command, and the rest of the line. What follows `--` is no option.
+fn options() -> Result<(String, Options), Failure> {
+    let mut words = std::env::args_os().skip(1).map(OsStringExt::into_vec);
+    let command = words.next().ok_or_else(|| misused("no command is given"))?;
+    let mut options = Options::default();
+    while let Some(word) = words.next() {
+        match word.as_slice() {
+            b"--vocab" => options.vocab = Some(lossy(&words.next().ok_or_else(|| misused("--vocab needs a file"))?)),
+            b"--partial" => options.partial = true,
+            b"--show" => options.show = true,
+            b"--text" => options.text = true,
+            b"--lossy" => options.lossy = true,
+            b"--" => options.words.extend(words.by_ref()),
+            other if other.starts_with(b"--") => return Err(misused(format!("there is no option {}", lossy(other)))),
+            _ => options.words.push(word),
+        }
+    }
+    Ok((lossy(&command), options))
+}
+
+fn lossy(bytes: &[u8]) -> String {
+    String::from_utf8_lossy(bytes).into_owned()
+}
+
+impl Options {
+    /// The vocabulary that was named, or the small one.
+    fn tokenizer(&self) -> Result<RwkvTokenizer, Failure> {
+        match &self.vocab {
+            Some(path) => load(path, self.partial).map(|(tokenizer, _)| tokenizer),
+            None => RwkvTokenizer::from_vocab_str(PHRASEOLOGY).map_err(refused),
+        }
+    }
+
+    /// The words of the command line with spaces between, or standard input.
+    fn input(&self) -> Result<Vec<u8>, Failure> {
+        if !self.words.is_empty() {
+            return Ok(self.words.join(&b' '));
+        }
+        let mut input = Vec::new();
+        io::stdin().read_to_end(&mut input)?;
+        Ok(input)
+    }
+}
+
+/// Loads a file; a refusal shows the line.
+fn load(path: &str, partial: bool) -> Result<(RwkvTokenizer, usize), Failure> {
+    let text = std::fs::read(path).map_err(|error| refused(format!("{path}: {error}")))?;
+    match RwkvTokenizer::from_vocab_bytes(&text, partial) {
+        Ok(tokenizer) => Ok((tokenizer, text.len())),
+        Err(VocabError::Invalid(refusal)) => Err(refused(format!("{path}: {refusal}{}", line_shown(&text, refusal)))),
+        Err(error) => Err(refused(error)),
+    }
+}
+
+/// The line that a refusal speaks of, with its number.
+fn line_shown(text: &[u8], refusal: Refusal) -> String {
+    let index = match refusal.place {
+        Place::Line(line) => line as usize - 1,
+        Place::Offset(offset) => text[..offset as usize].iter().filter(|&&byte| byte == b'\n').count(),
+        Place::None | Place::Byte(_) => return String::new(),
+    };
+    let line = text.split(|&byte| byte == b'\n').nth(index).unwrap_or_default();
+    let shown = shown(line);
+    let end = shown.char_indices().nth(200).map_or(shown.len(), |(at, _)| at);
+    let more = if end < shown.len() { ".." } else { "" };
+    format!("\n{:>6} | {}{more}", index + 1, &shown[..end])
+}
+
+/// Bytes for a terminal: characters as they are, what is not printable or not UTF-8 as escapes.
+fn shown(bytes: &[u8]) -> String {
+    let mut out = String::new();
+    for chunk in bytes.utf8_chunks() {
+        for c in chunk.valid().chars() {
+            match c {
+                '\'' | '"' | '\\' => out.push(c),
+                c => out.extend(c.escape_debug()),
+            }
+        }
+        for byte in chunk.invalid() {
+            let _ = write!(out, "\\x{byte:02x}");
+        }
+    }
+    out
+}
+
+/// Prints ids on a line, and before it, if asked for, the text with | between the tokens.
+fn print_ids(tokenizer: &RwkvTokenizer, ids: &[u32], show: bool) -> Result<(), Failure> {
+    let mut out = io::stdout().lock();
+    if show {
+        let tokens: Result<Vec<_>, _> = ids.iter().map(|&id| tokenizer.decode_bytes(&[id])).collect();
+        let tokens: Vec<_> = tokens.map_err(refused)?.iter().map(|token| shown(token)).collect();
+        writeln!(out, "{}", tokens.join("|"))?;
+    }
+    let ids: Vec<_> = ids.iter().map(u32::to_string).collect();
+    writeln!(out, "{}", ids.join(" "))?;
+    Ok(out.flush()?)
+}
+
+fn encode(options: &Options) -> Result<(), Failure> {
+    let tokenizer = options.tokenizer()?;
+    let ids = tokenizer.encode_bytes(&options.input()?).map_err(refused)?;
+    print_ids(&tokenizer, &ids, options.show)
+}
+
+fn decode(options: &Options) -> Result<(), Failure> {
+    let tokenizer = options.tokenizer()?;
+    let input = options.input()?;
+    let number = |word: &[u8]| lossy(word).parse().map_err(|_| refused(format!("{:?} is no id", lossy(word))));
+    let words = input.split(u8::is_ascii_whitespace).filter(|word| !word.is_empty());
+    let ids: Vec<u32> = words.map(number).collect::<Result<_, _>>()?;
+    let bytes = match (options.text, options.lossy) {
+        (true, _) => tokenizer.decode_utf8(&ids).map(String::into_bytes),
+        (_, true) => tokenizer.decode_lossy(&ids).map(String::into_bytes),
+        _ => tokenizer.decode_bytes(&ids),
+    };
+    Ok(io::stdout().write_all(&bytes.map_err(refused)?)?)
+}
+
+fn check(options: &Options) -> Result<(), Failure> {
+    let [file] = options.words.as_slice() else { return Err(misused("check needs one file")) };
+    let (tokenizer, len) = load(&lossy(file), options.partial)?;
+    let counts = tokenizer.counts();
+    println!("accepted as {}: {len} bytes of text", if options.partial { "partial" } else { "full" });
+    println!("{:>8} tokens", counts.tokens);
+    println!("{:>8} nodes", counts.nodes);
+    println!("{:>8} blob bytes", counts.blob_bytes);
+    println!("{:>8} table words", counts.table_words);
+    Ok(())
+}

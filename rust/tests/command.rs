@@ -1,0 +1,78 @@
+//! The command, run as a user runs it.
+use std::io::Write;
+use std::path::PathBuf;
+use std::process::{Command, Stdio};
+
+/// Exit status, standard output and standard error of the command on this input.
+fn run(words: &[&str], input: &[u8]) -> (i32, String, String) {
+    let mut child = Command::new(env!("CARGO_BIN_EXE_bombrezen"))
+        .args(words)
+        .stdin(Stdio::piped())
+        .stdout(Stdio::piped())
+        .stderr(Stdio::piped())
+        .spawn()
+        .expect("the command runs");
+    // A command that does not read its input may have closed it.
+    let _ = child.stdin.take().expect("a pipe").write_all(input);
+    let output = child.wait_with_output().expect("the command ends");
+    let text = |bytes: Vec<u8>| String::from_utf8_lossy(&bytes).into_owned();
+    (output.status.code().unwrap_or(-1), text(output.stdout), text(output.stderr))
+}
+
+/// A file with this vocabulary.
+fn file(name: &str, text: &[u8]) -> String {
+    let path = PathBuf::from(env!("CARGO_TARGET_TMPDIR")).join(name);
+    std::fs::write(&path, text).expect("a file can be written");
+    path.display().to_string()
+}
+
+const V: &[u8] = b"1 'a' 1\n2 'b' 1\n3 'ab' 2\n4 'abcd' 4\n5 'bc' 2\n";
+
+#[test]
+fn encodes_and_decodes() {
+    let v = file("v_encode.txt", V);
+    let options = ["--vocab", &v, "--partial"];
+    assert_eq!(run(&[&["encode", "abbc"], &options[..]].concat(), b""), (0, "3 5\n".into(), "".into()));
+    assert_eq!(run(&[&["encode", "--show"], &options[..]].concat(), b"aab"), (0, "a|ab\n1 3\n".into(), "".into()));
+    assert_eq!(run(&[&["decode", "4", "1"], &options[..]].concat(), b""), (0, "abcda".into(), "".into()));
+    let (status, out, error) = run(&[&["encode", "abc"], &options[..]].concat(), b"");
+    assert_eq!((status, out.as_str()), (1, ""));
+    assert!(error.contains("no token for byte 0x63 at byte offset 2"), "{error}");
+    let (status, _, error) = run(&[&["decode", "3", "0"], &options[..]].concat(), b"");
+    assert!(status == 1 && error.contains("missing token ID 0 at token index 1"), "{error}");
+}
+
+#[test]
+fn what_is_encoded_decodes_to_itself() {
+    let every: Vec<u8> = (0..=255).collect();
+    let (status, ids, _) = run(&["encode"], &every);
+    assert_eq!(status, 0);
+    assert_eq!(run(&["decode", "--lossy"], ids.as_bytes()).1, String::from_utf8_lossy(&every));
+    assert!(run(&["decode", "--text"], ids.as_bytes()).2.contains("not UTF-8"));
+}
+
+#[test]
+fn checks() {
+    let (status, out, _) = run(&["check", "--partial", &file("v_check.txt", V)], b"");
+    assert_eq!(status, 0);
+    for counts in ["5 tokens", "5 nodes", "10 blob bytes", "512 table words"] {
+        assert!(out.contains(counts), "{out}");
+    }
+    let (status, _, error) = run(&["check", &file("v_full.txt", V)], b"");
+    assert!(status == 1 && error.contains("byte 0x00: a byte has no token of its own (number 20)"), "{error}");
+    let (status, _, error) = run(&["check", &file("bad.txt", b"1 'a' 1\n2 'b\\q' 1\n")], b"");
+    assert!(status == 1 && error.contains("line 2: the literal") && error.contains("2 | 2 'b\\q' 1"), "{error}");
+    let (status, _, error) = run(&["check", &file("bytes.txt", b"1 'a' 1\n2 '\xff' 1\n")], b"");
+    assert!(status == 1 && error.contains("byte offset 11") && error.contains("2 | 2 '\\xff' 1"), "{error}");
+}
+
+#[test]
+fn misuse_is_told() {
+    for words in [&[][..], &["fly"], &["encode", "--vocab"], &["encode", "--loud"], &["check"]] {
+        let (status, out, error) = run(words, b"");
+        assert!(status == 2 && out.is_empty() && error.contains("usage:"), "{words:?}: {error}");
+    }
+    let (status, _, error) = run(&["check", "no such file"], b"");
+    assert!(status == 1 && error.contains("no such file"), "{error}");
+    assert!(run(&["decode", "12x"], b"").2.contains("\"12x\" is no id"));
+}

@@ -1,0 +1,79 @@
+//! The wrapper on document 01's examples, and where it has to lend more memory.
+use bombrezen::{DecodeError, PHRASEOLOGY, Place, Refusal, RwkvTokenizer, VocabError};
+
+/// Document 01's vocabulary V.
+fn v() -> RwkvTokenizer {
+    RwkvTokenizer::from_vocab_str_partial("1 'a' 1\n2 'b' 1\n3 'ab' 2\n4 'abcd' 4\n5 'bc' 2\n").expect("V loads")
+}
+
+/// The number and place of a refused text.
+fn refusal(text: &[u8], partial: bool) -> (u32, Place) {
+    match RwkvTokenizer::from_vocab_bytes(text, partial) {
+        Err(VocabError::Invalid(Refusal { number, place })) => (number, place),
+        other => panic!("{other:?}"),
+    }
+}
+
+#[test]
+fn v_encodes() {
+    let counts = v().counts();
+    assert_eq!((counts.tokens, counts.nodes, counts.blob_bytes, counts.table_words), (5, 5, 10, 512));
+    assert_eq!(v().encode("abcd").unwrap(), [4]);
+    assert_eq!(v().encode("aab").unwrap(), [1, 3]);
+    assert_eq!(v().encode("abbc").unwrap(), [3, 5]);
+    assert_eq!(v().encode("").unwrap(), []);
+    let error = v().encode("abc").unwrap_err();
+    assert_eq!((error.byte_offset, error.byte), (2, b'c'));
+}
+
+#[test]
+fn v_decodes() {
+    assert_eq!(v().decode_bytes(&[4, 1]).unwrap(), b"abcda");
+    assert_eq!(v().decode_utf8(&[4, 1]).unwrap(), "abcda");
+    assert_eq!(v().decode_lossy(&[]).unwrap(), "");
+    for (ids, index) in [(&[3, 0][..], 1), (&[6], 0), (&[65_536], 0)] {
+        let missing = DecodeError::MissingToken { token_index: index, token_id: ids[index] };
+        assert_eq!(v().decode_bytes(ids), Err(missing.clone()));
+        assert_eq!(v().decode_lossy(ids), Err(missing));
+    }
+}
+
+#[test]
+fn refusals_have_number_place_and_words() {
+    assert_eq!(refusal(b"1 'a' 1\n2 'b 1", true), (12, Place::Line(2)));
+    assert_eq!(refusal(b"1 'a' 1\n2 '\xff' 1", true), (2, Place::Offset(11)));
+    assert_eq!(refusal(b"1 'a' 1", false), (20, Place::Byte(0)));
+    assert_eq!(refusal(b"", true), (19, Place::None));
+    let error = RwkvTokenizer::from_vocab_str_partial("0 'a' 1").unwrap_err();
+    assert_eq!(error.to_string(), "line 1: the id is 0, which is reserved (number 8)");
+}
+
+#[test]
+fn bytes_that_are_no_text() {
+    let tokenizer = RwkvTokenizer::from_vocab_str_partial("1 'a' 1\n2 b'\\xe2\\x82' 2\n3 b'\\xac' 1\n").unwrap();
+    assert_eq!(tokenizer.decode_utf8(&[1, 2, 3]).unwrap(), "a€");
+    assert_eq!(tokenizer.decode_lossy(&[2, 1, 3]).unwrap(), "\u{fffd}a\u{fffd}");
+    let Err(DecodeError::InvalidUtf8(error)) = tokenizer.decode_utf8(&[1, 2, 1]) else { panic!("not UTF-8") };
+    assert_eq!((error.as_bytes(), error.utf8_error().valid_up_to()), (&b"a\xe2\x82a"[..], 1));
+}
+
+#[test]
+fn more_memory_is_lent_where_it_is_needed() {
+    // One long token has more nodes and bytes than most texts of its length; five such with one label have more blocks.
+    let token = |first: char| format!("{first}{}", "a".repeat(254));
+    let text: String = "bcdefgh".chars().zip(1..).map(|(first, id)| format!("{id} '{}' 255\n", token(first))).collect();
+    let tokenizer = RwkvTokenizer::from_vocab_str_partial(&text).unwrap();
+    assert_eq!(tokenizer.counts().nodes, 1 + 7 * 254);
+    assert_eq!(tokenizer.encode(&(token('h') + &token('b'))).unwrap(), [7, 1]);
+    assert_eq!(tokenizer.decode_utf8(&[3; 9]).unwrap(), token('d').repeat(9));
+    assert_eq!(tokenizer.decode_lossy(&[3; 9]).unwrap(), token('d').repeat(9));
+}
+
+#[test]
+fn phraseology_is_full() {
+    let tokenizer = RwkvTokenizer::from_vocab_str(PHRASEOLOGY).unwrap();
+    let every: Vec<u8> = (0..=255).collect();
+    assert_eq!(tokenizer.decode_bytes(&tokenizer.encode_bytes(&every).unwrap()).unwrap(), every);
+    let clone = tokenizer.clone();
+    std::thread::spawn(move || assert_eq!(clone.encode(", cleared for takeoff").unwrap().len(), 2)).join().unwrap();
+}
