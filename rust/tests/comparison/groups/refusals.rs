@@ -1,0 +1,70 @@
+//! Refusals that the original hasn't, against document 01's table: 1, 17, 18 and 21.
+use super::random::Random;
+use super::sides::{Lent, original_load};
+use super::tally::Tally;
+use super::texts::{tokens_of, vocabulary};
+use bombrezen::ffi::{self, Decoding, Memory};
+
+/// Number 1: each part a cell too short, for every call; nothing changes.
+pub fn short_memory(tally: &mut Tally) {
+    for (single, offsets, roots) in
+        [(255, 65_537, 65_536), (256, 65_536, 65_536), (256, 65_537, 65_535), (0, 0, 0), (256, 65_537, 65_536)]
+    {
+        let wanted = u32::from((single, offsets, roots) != (256, 65_537, 65_536));
+        let (mut single, mut offsets, mut roots) = (vec![3; single], vec![3; offsets], vec![3; roots]);
+        let (mut blob, mut table) = (vec![3; 64], vec![3; 512]);
+        let memory = Memory { single: &single, offsets: &offsets, blob: &blob, roots: &roots, table: &table };
+        let (ids, bytes) = (&mut [5; 4], &mut [5; 4]);
+        let mut numbers = vec![ffi::encode(memory, b"a", ids).0 == 1];
+        numbers
+            .extend([Decoding::Bytes, Decoding::Text, Decoding::Lossy].map(|how| ffi::decode(memory, how, &[1], bytes).0 == 1));
+        let (nodes, used, used_bases) = (&mut [ffi::Node::default(); 8], &mut [9; 8], &mut [9; 8]);
+        let (single, offsets, blob, roots, table) =
+            (&mut single[..], &mut offsets[..], &mut blob[..], &mut roots[..], &mut table[..]);
+        let lent = ffi::LoadMemory { single, offsets, blob, roots, table, nodes, used, used_bases };
+        let (number, report) = ffi::load(b"\xff", true, lent);
+        numbers.push(number == 1);
+        let changed =
+            *used != [9; 8] || *used_bases != [9; 8] || wanted == 1 && (*ids, *bytes, report) != ([5; 4], [5; 4], [0; 6]);
+        for one in numbers {
+            tally.case(u32::from(one), u32::from(one) == wanted && !changed, || format!("short memory: {one} and not {wanted}"));
+        }
+    }
+}
+
+/// 17, 18 and 21, which the original hasn't: with just room enough a text loads; with one less it gives the number, at the line
+/// where document 01's counts pass the room.
+pub fn room(tally: &mut Tally) {
+    let mut random = Random::new(3);
+    for round in 0..150 {
+        let longest = *random.pick(&[2, 4, 12]);
+        let text = vocabulary(&mut random, if round % 2 == 0 { b"abcd" } else { b"ab" }, 40, longest);
+        let original = original_load(&text, true).unwrap_or_else(|refusal| panic!("{text:?} was refused with {refusal:?}"));
+        let tokens = tokens_of(&original);
+        let (nodes, blob) = (counts(&tokens, tokens.len()).0, counts(&tokens, tokens.len()).1);
+        let blocks = original.raw().4.len() / 256;
+        for (less_nodes, less_blob, less_blocks) in
+            [(0, 0, 0), (1, 0, 0), (0, 1, 0), (0, 0, 1), (1, 1, 1), (nodes, 0, 0), (0, blob, 0)]
+        {
+            let (room_nodes, room_blob) = (nodes - less_nodes, blob - less_blob);
+            let line = (1..=tokens.len()).find(|&n| counts(&tokens, n).0 > room_nodes || counts(&tokens, n).1 > room_blob);
+            let wanted = match line {
+                Some(n) if counts(&tokens, n).0 > room_nodes => (17, [1, n as u64, 0, 0, 0, 0]),
+                Some(n) => (18, [1, n as u64, 0, 0, 0, 0]),
+                None if less_blocks > 0 => (21, [0; 6]),
+                None => (0, [0, 0, tokens.len() as u64, nodes as u64, blob as u64, blocks as u64 * 256]),
+            };
+            let mut lent = Lent::new(room_nodes, room_blob, blocks - less_blocks);
+            let answer = lent.load(text.as_bytes(), true);
+            let same = answer == wanted && (answer.0 != 0 || lent.equals(&original));
+            tally.case(answer.0, same, || format!("{text:?} gave {answer:?} and not {wanted:?}"));
+        }
+    }
+}
+
+/// Nodes (one, and the distinct prefixes of two or more bytes) and blob bytes of the first n tokens.
+fn counts(tokens: &[(u32, Vec<u8>)], n: usize) -> (usize, usize) {
+    let taken = || tokens[..n].iter().map(|(_, token)| token);
+    let prefixes: std::collections::HashSet<&[u8]> = taken().flat_map(|token| (2..=token.len()).map(|k| &token[..k])).collect();
+    (1 + prefixes.len(), taken().map(Vec::len).sum())
+}

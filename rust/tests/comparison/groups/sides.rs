@@ -1,0 +1,143 @@
+//! Both sides: the library through its plain calls, over memory that is lent again and again, and the original.
+use super::original::RwkvTokenizer as Original;
+use bombrezen::ffi::{self, Decoding, Memory};
+
+/// Fills cells that no call may touch, and outputs before a call.
+const FILL: u64 = 0x5a5a_5a5a_5a5a_5a5a;
+
+/// Lent memory; `single`, offsets and roots have a cell more than they need, which no call may touch.
+pub struct Lent {
+    pub single: Vec<i32>,
+    pub offsets: Vec<u32>,
+    pub blob: Vec<u8>,
+    pub roots: Vec<u64>,
+    pub table: Vec<u64>,
+    pub nodes: Vec<ffi::Node>,
+    pub used: Vec<u64>,
+    pub used_bases: Vec<u64>,
+}
+
+/// A load's number, place kind, place, tokens, nodes, blob bytes and table words.
+pub type Loaded = (u32, [u64; 6]);
+
+impl Lent {
+    pub fn new(nodes: usize, blob: usize, blocks: usize) -> Self {
+        Self {
+            single: vec![FILL as i32; 257],
+            offsets: vec![FILL as u32; 65_538],
+            blob: vec![FILL as u8; blob],
+            roots: vec![FILL; 65_537],
+            table: vec![FILL; blocks * 256],
+            nodes: vec![ffi::Node::default(); nodes],
+            used: vec![FILL; blocks * 4],
+            used_bases: vec![FILL; blocks * 4],
+        }
+    }
+
+    /// The library's load. What must be untouched, and what must be empty after a refusal, is tested in passing.
+    pub fn load(&mut self, text: &[u8], partial: bool) -> Loaded {
+        let memory = ffi::LoadMemory {
+            single: &mut self.single,
+            offsets: &mut self.offsets,
+            blob: &mut self.blob,
+            roots: &mut self.roots,
+            table: &mut self.table,
+            nodes: &mut self.nodes,
+            used: &mut self.used,
+            used_bases: &mut self.used_bases,
+        };
+        let (number, report) = ffi::load(text, partial, memory);
+        let past = (self.single[256], self.offsets[65_537], self.roots[65_536]);
+        assert_eq!(past, (FILL as i32, FILL as u32, FILL), "a cell past the fixed lengths was touched");
+        if number > 2 {
+            assert!(self.is_empty(), "number {number} left something in the memory");
+        }
+        (number, report)
+    }
+
+    fn is_empty(&self) -> bool {
+        self.single[..256].iter().all(|&id| id == -1)
+            && self.offsets[..65_537].iter().all(|&offset| offset == 0)
+            && self.blob.iter().all(|&byte| byte == 0)
+            && self.roots[..65_536].iter().all(|&word| word == 0)
+            && self.table.iter().all(|&word| word == 0)
+    }
+
+    pub fn memory(&self) -> Memory<'_> {
+        Memory { single: &self.single, offsets: &self.offsets, blob: &self.blob, roots: &self.roots, table: &self.table }
+    }
+
+    /// All five tables against the original's, word for word, with zeros past the content.
+    pub fn equals(&self, original: &Original) -> bool {
+        let (blob, offsets, single, roots, table) = original.raw();
+        let blob = &blob[..blob.len() - 8];
+        self.single[..256] == single[..]
+            && self.offsets[..65_537] == *offsets
+            && self.roots[..65_536] == *roots
+            && starts_with_then_zeros(&self.blob, blob)
+            && starts_with_then_zeros(&self.table, table)
+    }
+}
+
+fn starts_with_then_zeros<T: PartialEq + Default>(all: &[T], start: &[T]) -> bool {
+    all.starts_with(start) && all[start.len()..].iter().all(|x| *x == T::default())
+}
+
+/// The library's encoding with so many output cells: number, ids, offset, byte. Cells past the ids must be untouched.
+pub fn encode(memory: Memory<'_>, src: &[u8], cells: usize) -> (u32, Vec<u32>, u64, u64) {
+    let mut out = vec![FILL as u32; cells];
+    let (number, [count, offset, byte]) = ffi::encode(memory, src, &mut out);
+    let rest = out.split_off(count as usize);
+    assert!(rest.iter().all(|&cell| cell == FILL as u32), "a cell past the ids was touched");
+    (number, out, offset, byte)
+}
+
+/// The library's decoding with so many output bytes: number, bytes, index or offset, id.
+pub fn decode(memory: Memory<'_>, how: Decoding, ids: &[u32], cells: usize) -> (u32, Vec<u8>, u64, u64) {
+    let mut out = vec![FILL as u8; cells];
+    let (number, [len, index, id]) = ffi::decode(memory, how, ids, &mut out);
+    let rest = out.split_off(len as usize);
+    assert!(rest.iter().all(|&cell| cell == FILL as u8), "a cell past the bytes was touched");
+    (number, out, index, id)
+}
+
+/// The original's answer to a text, in document 01's number and place.
+pub fn original_load(text: &str, partial: bool) -> Result<Original, (u32, u64, u64)> {
+    let loaded = if partial { Original::from_vocab_str_partial(text) } else { Original::from_vocab_str(text) };
+    loaded.map_err(|error| number_of(&error.to_string()))
+}
+
+/// Number, place kind and place from the original's message.
+fn number_of(message: &str) -> (u32, u64, u64) {
+    if message == "vocabulary is empty" {
+        return (19, 0, 0);
+    }
+    if let Some(byte) = message.strip_prefix("missing singleton byte 0x") {
+        return (20, 3, u64::from_str_radix(byte, 16).expect("a byte in the message"));
+    }
+    let starts = |start: &str| message.starts_with(start);
+    let number = match () {
+        () if starts("malformed") && message.ends_with(": blank line") => 3,
+        () if starts("malformed") && message.ends_with(": missing separator") => 4,
+        () if starts("malformed") => 5,
+        () if starts("bad token ID") => 6,
+        () if starts("token ID 0 is reserved") => 8,
+        () if starts("duplicate token ID") => 9,
+        () if starts("token IDs out of ascending order") => 10,
+        () if starts("bad token length") => 11,
+        () if starts("bad literal") => 12,
+        () if starts("empty token") => 13,
+        () if starts("length mismatch") => 14,
+        () if starts("duplicate token bytes") => 16,
+        () if message.ends_with("exceeds u8 storage") => 15,
+        () if message.ends_with("exceeds 65536") => 7,
+        () => panic!("no number for {message:?}"),
+    };
+    (number, 1, line_in(message))
+}
+
+fn line_in(message: &str) -> u64 {
+    let at = message.find("line ").expect("a line in the message") + 5;
+    let digits: String = message[at..].chars().take_while(char::is_ascii_digit).collect();
+    digits.parse().expect("a line's number in the message")
+}
