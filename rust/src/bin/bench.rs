@@ -1,0 +1,151 @@
+//! Times of the library against those of the Rust crate that it was ported from: one process, the same vocabulary, in turns, the
+//! least of many rounds. RWKV_ORIGINAL names the crate's folder when this is built, RWKV_LARGE a large vocabulary when it is run.
+
+#[cfg(not(original))]
+fn main() {
+    eprintln!("nothing to compare with: RWKV_ORIGINAL named no folder with the original crate when this was built");
+    std::process::exit(1);
+}
+
+#[cfg(original)]
+extern crate original;
+
+#[cfg(original)]
+fn main() {
+    compare::all();
+}
+
+#[cfg(original)]
+mod compare {
+    use bombrezen::{PHRASEOLOGY, RwkvTokenizer, ffi};
+    use original::RwkvTokenizer as Original;
+    use std::hint::black_box;
+    use std::time::Instant;
+
+    /// Bytes of each input.
+    const SIZE: usize = 1 << 18;
+    const ROUNDS: usize = 60;
+
+    /// The least nanoseconds of each, taken in turns.
+    fn race<const N: usize>(rounds: usize, mut runs: [&mut dyn FnMut(); N]) -> [f64; N] {
+        let mut least = [f64::MAX; N];
+        for _ in 0..rounds {
+            for (run, least) in runs.iter_mut().zip(&mut least) {
+                let start = Instant::now();
+                run();
+                *least = least.min(start.elapsed().as_nanos() as f64);
+            }
+        }
+        least
+    }
+
+    /// Prints a row: both sides per unit, and the ratio.
+    fn row(name: &str, [ours, theirs]: [f64; 2], count: usize, unit: &str) {
+        let per = |nanos: f64| nanos / count as f64;
+        println!("{name:<26} {:>9.2} {:>9.2}  ns {unit:<6} {:>6.2}", per(ours), per(theirs), ours / theirs);
+    }
+
+    pub fn all() {
+        let large = std::env::var_os("RWKV_LARGE").map(|path| std::fs::read_to_string(path).expect("RWKV_LARGE names a text"));
+        let text = large.as_deref().unwrap_or_else(|| {
+            println!("RWKV_LARGE names no file: the small vocabulary is used");
+            PHRASEOLOGY
+        });
+        let ours = RwkvTokenizer::from_vocab_str(text).expect("a full vocabulary");
+        let theirs = Original::from_vocab_str(text).expect("a full vocabulary");
+        println!("{:<26} {:>9} {:>9}  {:<9} {:>6}", "", "library", "Rust", "a", "ratio");
+        load(text);
+        let inputs = [("mixed", mixed(&ours)), ("prose", prose()), ("random", random_bytes())];
+        for (name, src) in &inputs {
+            encode(name, &ours, &theirs, src);
+        }
+        for (name, src) in &inputs {
+            decode(name, &ours, &theirs, src);
+        }
+        sizes(&ours, &theirs);
+    }
+
+    fn load(text: &str) {
+        let times = race(
+            ROUNDS / 2,
+            [&mut || drop(black_box(RwkvTokenizer::from_vocab_str(black_box(text)))), &mut || {
+                drop(black_box(Original::from_vocab_str(black_box(text))))
+            }],
+        );
+        row("load", times, text.len(), "byte");
+    }
+
+    fn encode(name: &str, ours: &RwkvTokenizer, theirs: &Original, src: &[u8]) {
+        let times = race(
+            ROUNDS,
+            [&mut || drop(black_box(ours.encode_bytes(black_box(src)))), &mut || {
+                drop(black_box(theirs.encode_bytes(black_box(src))))
+            }],
+        );
+        row(&format!("encode, {name}"), times, src.len(), "byte");
+    }
+
+    fn decode(name: &str, ours: &RwkvTokenizer, theirs: &Original, src: &[u8]) {
+        let ids = ours.encode_bytes(src).expect("a full vocabulary");
+        let times = race(
+            ROUNDS,
+            [&mut || drop(black_box(ours.decode_bytes(black_box(&ids)))), &mut || {
+                drop(black_box(theirs.decode_bytes(black_box(&ids))))
+            }],
+        );
+        row(&format!("decode, {name}"), times, src.len(), "byte");
+        let times = race(
+            ROUNDS,
+            [&mut || drop(black_box(ours.decode_lossy(black_box(&ids)))), &mut || {
+                drop(black_box(theirs.decode_lossy(black_box(&ids))))
+            }],
+        );
+        row(&format!("decode lossy, {name}"), times, src.len(), "byte");
+    }
+
+    fn sizes(ours: &RwkvTokenizer, theirs: &Original) {
+        let m = ours.memory();
+        let bytes =
+            size_of_val(m.single) + size_of_val(m.offsets) + size_of_val(m.blob) + size_of_val(m.roots) + size_of_val(m.table);
+        let (blob, offsets, single, roots, table) = theirs.raw();
+        let other = size_of_val(blob) + size_of_val(offsets) + size_of_val(single) + size_of_val(roots) + size_of_val(table);
+        println!("vocabulary memory: {bytes} bytes, the Rust's {other}");
+        println!("a node of the work memory: {} bytes", size_of::<ffi::Node>());
+    }
+
+    /// Tokens at random: words, code, several scripts.
+    fn mixed(ours: &RwkvTokenizer) -> Vec<u8> {
+        let mut seed = 1;
+        let mut src = Vec::new();
+        while src.len() < SIZE {
+            let id = next(&mut seed) % 65_536;
+            src.extend(ours.decode_bytes(&[id as u32]).unwrap_or_default());
+        }
+        src
+    }
+
+    /// The pages of this repository, again and again.
+    fn prose() -> Vec<u8> {
+        let pages = [
+            include_str!("../../../README.md"),
+            include_str!("../../../NOTICE"),
+            include_str!("../../../docs/DECISIONS.md"),
+            include_str!("../../../docs/DIFFERENCES.md"),
+            include_str!("../../../docs/PROOFS.md"),
+        ];
+        pages.concat().into_bytes().into_iter().cycle().take(SIZE).collect()
+    }
+
+    fn random_bytes() -> Vec<u8> {
+        let mut seed = 2;
+        (0..SIZE).map(|_| next(&mut seed) as u8).collect()
+    }
+
+    /// The next of a run of numbers (xorshift).
+    fn next(seed: &mut u64) -> u64 {
+        *seed ^= *seed << 13;
+        *seed ^= *seed >> 7;
+        *seed ^= *seed << 17;
+        *seed
+    }
+}
