@@ -5,3 +5,4 @@ pub mod Calls
 pub mod Demand3
 pub mod Determined
 pub mod Consequences
+pub mod TextIn

@@ -3,7 +3,8 @@ use mathlib.Core.Path.{_≡_, refl, sym, ap, _∙_, subst}
 use mathlib.Core.Logic.{_⊎_, inl, inr}
 use mathlib.Core.Bool.{Bool, true, false, not, cond, false≢true, true≢false}
 use mathlib.Core.Option.{Option, none, some}
-use mathlib.Core.List.{List, [], _∷_, _++_, List·Memᴰ, List·Memᴰ·head, List·Memᴰ·tail, List·Memᴰ·not-nil, List·Memᴰ·append-cases, List·Memᴰ·eq-of-singleton}
+use mathlib.Core.List.{List, [], _∷_, _++_, List·Memᴰ, List·Memᴰ·head, List·Memᴰ·tail, List·Memᴰ·not-nil, List·Memᴰ·append-cases}
+use mathlib.Core.List.{List·Memᴰ·eq-of-singleton}
 use Prim.Native.Nat.{ℕ, zero, suc, _+_, _-_, _^_, _≤_, _<_}
 use native.Mathlib.Omega.{arith}
 use lib.Dec.{eqb, leb, ltb}
@@ -19,7 +20,8 @@ use Rattle.spec.specs.Trie.{nodeCount}
 use Rattle.spec.specs.Layout.{tableWords}
 use Rattle.spec.specs.Valid.{Rising, Distinct, Valid}
 use Rattle.spec.specs.Memory.{blobBytes}
-use Rattle.spec.specs.Load.{Room, idRule, lengthRule, readToken, readFields, readLine, admit, lastId, takeLine, Place, nowhere, line, byte, Outcome, accepted, refused, missing, demanded, finish, takeLines, load}
+use Rattle.spec.specs.Load.{Room, idRule, lengthRule, readToken, readFields, readLine, admit, lastId, takeLine, Place, nowhere, line}
+use Rattle.spec.specs.Load.{byte, Outcome, accepted, refused, missing, demanded, finish, takeLines, load}
 use Rattle.spec.specs.Theorems.{LoadsValid, FullIsFull, PartialDrops20}
 use Rattle.laws.specs.Tests.{either, any-mem, any-find, no-true, neither, same-refl, same-eq, clash}
 use Rattle.loading.specs.Checks.{need-pass, given-pass, then-pass}
@@ -52,7 +54,8 @@ length-passes wanted t u e =
     let n = eqb-false (length (t .bytes)) 0 (not-true _ p) in
     (cc, omega (arith, n), leb-true (length (t .bytes)) 255 r)
 
-token-passes : (f : Fields) (id previous : ℕ) (t : Token) → Bytes (f .literal) → previous < id → id ≤ 65535 → readToken f id ≡ pass t → Reads previous t
+token-passes : (f : Fields) (id previous : ℕ) (t : Token) → Bytes (f .literal) → previous < id → id ≤ 65535 → readToken f id ≡ pass t
+    → Reads previous t
 unfolding readToken
 token-passes f id previous t h a b e =
     let (wanted, p, e₁) = given-pass _ _ _ _ e in
@@ -89,7 +92,8 @@ admit-passes room ts t more e =
       more-is = sym z;
       new = not-true _ p;
       nodes = subst (λ (l : List Token). nodeCount l ≤ room .nodes) z (leb-true _ _ q);
-      blob = subst (λ (l : List Token). length (blobBytes l) ≤ room .blob) z (leb-true _ _ r) }
+      blob = subst (λ (l : List Token). length (blobBytes l) ≤ room .blob) z (leb-true _ _ r);
+    }
 
 last-above : (low : ℕ) (t : Token) (ts : List Token) → Rising low (t ∷ ts) → low < lastId (t ∷ ts)
 unfolding lastId
@@ -100,7 +104,8 @@ rising-snoc : (low : ℕ) (ts : List Token) (t : Token) → Rising low ts → la
 unfolding lastId
 rising-snoc low [] t r a b = (b, tt)
 rising-snoc low (u ∷ []) t r a b = (r .0, (a, tt))
-rising-snoc low (u ∷ v ∷ ts) t r a b = let c = last-above (u .id) v ts (r .1) in (r .0, rising-snoc (u .id) (v ∷ ts) t (r .1) a (omega arith))
+rising-snoc low (u ∷ v ∷ ts) t r a b = let c = last-above (u .id) v ts (r .1) in
+    (r .0, rising-snoc (u .id) (v ∷ ts) t (r .1) a (omega arith))
 
 distinct-snoc : (ts : List Token) (t : Token) → Distinct ts → seen ts (t .bytes) ≡ false → Distinct (ts ++ (t ∷ []))
 unfolding seen
@@ -122,7 +127,8 @@ empty-valid = record {
   id-fits = λ t m. absurd (List·Memᴰ·not-nil m);
   nonempty = λ t m. absurd (List·Memᴰ·not-nil m);
   short = λ t m. absurd (List·Memᴰ·not-nil m);
-  bytes = λ t m. absurd (List·Memᴰ·not-nil m) }
+  bytes = λ t m. absurd (List·Memᴰ·not-nil m);
+}
 
 -- a valid vocabulary with one more token that was read and is new
 pub valid-snoc : (ts : List Token) (t : Token) → Valid ts → Reads (lastId ts) t → seen ts (t .bytes) ≡ false → Valid (ts ++ (t ∷ []))
@@ -132,7 +138,8 @@ valid-snoc ts t v r new = record {
   id-fits = each (λ (u : Token). u .id < 65536) (v .id-fits) (r .small);
   nonempty = each (λ (u : Token). 1 ≤ length (u .bytes)) (v .nonempty) (r .nonempty);
   short = each (λ (u : Token). length (u .bytes) ≤ 255) (v .short) (r .short);
-  bytes = each (λ (u : Token). Bytes (u .bytes)) (v .bytes) (r .bytes) }
+  bytes = each (λ (u : Token). Bytes (u .bytes)) (v .bytes) (r .bytes);
+}
   where
     each : (P : Token → Type 0) → ((u : Token) → List·Memᴰ u ts → P u) → P t → (u : Token) → List·Memᴰ u (ts ++ (t ∷ [])) → P u
     each P h p u m = go (List·Memᴰ·append-cases ts m)
@@ -144,7 +151,8 @@ valid-snoc ts t v r new = record {
 -- ---- the text
 
 -- what holds of the tokens before a line holds after it
-pub line-valid : (room : Room) (ts : List Token) (l : List ℕ) (more : List Token) → Valid ts → Bytes l → takeLine room ts l ≡ pass more → Valid more
+pub line-valid : (room : Room) (ts : List Token) (l : List ℕ) (more : List Token) → Valid ts → Bytes l → takeLine room ts l ≡ pass more
+    → Valid more
 unfolding takeLine
 line-valid room ts l more v h e =
     let (t, p, q) = then-pass _ _ _ e in
@@ -159,7 +167,8 @@ pub record Finishes (partial : Bool) (room : Room) (ts : List Token) : Type 0 wh
   pub whole : demanded partial (missing ts 256 0) ≡ none
   pub table : tableWords ts ≤ room .table
 
-pub finish-accepts : (partial : Bool) (room : Room) (ts us : List Token) → finish partial room ts ≡ accepted us → (ts ≡ us) × Finishes partial room ts
+pub finish-accepts : (partial : Bool) (room : Room) (ts us : List Token) → finish partial room ts ≡ accepted us → (ts ≡ us)
+    × Finishes partial room ts
 unfolding finish
 finish-accepts partial room [] us e = absurd (accepted≢refused us 19 nowhere e)
 finish-accepts partial room (t ∷ ts) us e = go (demanded partial (missing (t ∷ ts) 256 0)) refl e
@@ -170,7 +179,11 @@ finish-accepts partial room (t ∷ ts) us e = go (demanded partial (missing (t �
     room-for false q k = absurd (accepted≢refused us 21 nowhere k)
 
     go : (o : Option ℕ) → demanded partial (missing (t ∷ ts) 256 0) ≡ o
-        → elim o [ some b ↦ refused 20 (byte b) | none ↦ cond (leb (tableWords (t ∷ ts)) (room .table)) (accepted (t ∷ ts)) (refused 21 nowhere) ] ≡ accepted us
+        → elim o [
+          | some b ↦ refused 20 (byte b)
+          | none ↦ cond (leb (tableWords (t ∷ ts)) (room .table)) (accepted (t ∷ ts))
+              (refused 21 nowhere)
+        ] ≡ accepted us
         → (t ∷ ts ≡ us) × Finishes partial room (t ∷ ts)
     go (some b) o k = absurd (accepted≢refused us 20 (byte b) k)
     go none o k = let (z, w) = room-for (leb (tableWords (t ∷ ts)) (room .table)) refl k in (z, record { whole = o; table = w })
@@ -184,24 +197,28 @@ pub none-held : (room : Room) → Held room []
 unfolding blobBytes each
 none-held room = record { valid = empty-valid; blob = omega arith }
 
-pub line-held : (room : Room) (ts : List Token) (l : List ℕ) (more : List Token) → Held room ts → Bytes l → takeLine room ts l ≡ pass more → Held room more
+pub line-held : (room : Room) (ts : List Token) (l : List ℕ) (more : List Token) → Held room ts → Bytes l → takeLine room ts l ≡ pass more
+    → Held room more
 unfolding takeLine
 line-held room ts l more v h e =
     let (t, p, q) = then-pass _ _ _ e in
     record { valid = line-valid room ts l more (v .valid) h e; blob = admit-passes room ts t more q .blob }
 
 -- what an accepted text says of its tokens
-pub lines-accept : (partial : Bool) (room : Room) (n : ℕ) (ts : List Token) (ls : List (List ℕ)) (us : List Token) → Held room ts → AllBytes ls
+pub lines-accept : (partial : Bool) (room : Room) (n : ℕ) (ts : List Token) (ls : List (List ℕ)) (us : List Token) → Held room ts
+    → AllBytes ls
     → takeLines partial room n ts ls ≡ accepted us → Held room us × Finishes partial room us
 unfolding takeLines
 lines-accept partial room n ts [] us v h e =
     let (z, f) = finish-accepts partial room ts us e in
     (subst (Held room) z v, subst (Finishes partial room) z f)
-lines-accept partial room n ts (l ∷ ls) us v h e = go (takeLine room ts l) refl e (λ more w. lines-accept partial room (suc n) more ls us w (h .1))
+lines-accept partial room n ts (l ∷ ls) us v h e = go (takeLine room ts l) refl e
+    (λ more w. lines-accept partial room (suc n) more ls us w (h .1))
   where
     go : (c : Check (List Token)) → takeLine room ts l ≡ c
         → elim c [ pass more ↦ takeLines partial room (suc n) more ls | refuse number ↦ refused number (line n) ] ≡ accepted us
-        → ((more : List Token) → Held room more → takeLines partial room (suc n) more ls ≡ accepted us → Held room us × Finishes partial room us)
+        → ((more : List Token) → Held room more → takeLines partial room (suc n) more ls ≡ accepted us → Held room us
+        × Finishes partial room us)
         → Held room us × Finishes partial room us
     go (pass more) p k r = r more (line-held room ts l more v (h .0) p) k
     go (refuse number) p k r = absurd (accepted≢refused us number (line n) k)
@@ -232,7 +249,8 @@ missing-none ts (suc n) b e c l h = go (seen ts (b ∷ [])) refl e (either (eqb 
     go true p k (inr q) r = let ne = eqb-false b c q in r k (omega (arith, ne)) (omega arith)
 
 -- an end depends on the mode by refusal 20 alone
-finish-modes : (room : Room) (ts : List Token) → (finish false room ts ≡ finish true room ts) ⊎ ((b : ℕ) × (finish false room ts ≡ refused 20 (byte b)))
+finish-modes : (room : Room) (ts : List Token) → (finish false room ts ≡ finish true room ts) ⊎
+    ((b : ℕ) × (finish false room ts ≡ refused 20 (byte b)))
 unfolding finish
 finish-modes room [] = inl refl
 finish-modes room (t ∷ ts) = go (missing (t ∷ ts) 256 0)
@@ -240,7 +258,8 @@ finish-modes room (t ∷ ts) = go (missing (t ∷ ts) 256 0)
     end : Outcome
     end = cond (leb (tableWords (t ∷ ts)) (room .table)) (accepted (t ∷ ts)) (refused 21 nowhere)
 
-    go : (o : Option ℕ) → (elim o [ some b ↦ refused 20 (byte b) | none ↦ end ] ≡ end) ⊎ ((b : ℕ) × (elim o [ some b ↦ refused 20 (byte b) | none ↦ end ] ≡ refused 20 (byte b)))
+    go : (o : Option ℕ) → (elim o [ some b ↦ refused 20 (byte b) | none ↦ end ] ≡ end) ⊎
+        ((b : ℕ) × (elim o [ some b ↦ refused 20 (byte b) | none ↦ end ] ≡ refused 20 (byte b)))
     go none = inl refl
     go (some b) = inr (b, refl)
 
@@ -254,7 +273,8 @@ lines-modes room n ts (l ∷ ls) = go (takeLine room ts l) (λ more. lines-modes
     after partial c = elim c [ pass more ↦ takeLines partial room (suc n) more ls | refuse number ↦ refused number (line n) ]
 
     go : (c : Check (List Token))
-        → ((more : List Token) → (takeLines false room (suc n) more ls ≡ takeLines true room (suc n) more ls) ⊎ ((b : ℕ) × (takeLines false room (suc n) more ls ≡ refused 20 (byte b))))
+        → ((more : List Token) → (takeLines false room (suc n) more ls ≡ takeLines true room (suc n) more ls) ⊎
+        ((b : ℕ) × (takeLines false room (suc n) more ls ≡ refused 20 (byte b))))
         → (after false c ≡ after true c) ⊎ ((b : ℕ) × (after false c ≡ refused 20 (byte b)))
     go (pass more) r = r more
     go (refuse number) r = inl refl
@@ -265,12 +285,14 @@ unfolding load
 partial-drops-20 room text = lines-modes room 1 [] (lines text)
 
 -- the end's facts, of any lines
-full-lines : (room : Room) (n : ℕ) (ts : List Token) (ls : List (List ℕ)) (us : List Token) → takeLines false room n ts ls ≡ accepted us → Finishes false room us
+full-lines : (room : Room) (n : ℕ) (ts : List Token) (ls : List (List ℕ)) (us : List Token) → takeLines false room n ts ls ≡ accepted us
+    → Finishes false room us
 unfolding takeLines
 full-lines room n ts [] us e = let (z, f) = finish-accepts false room ts us e in subst (Finishes false room) z f
 full-lines room n ts (l ∷ ls) us e = go (takeLine room ts l) e (λ more. full-lines room (suc n) more ls us)
   where
-    go : (c : Check (List Token)) → elim c [ pass more ↦ takeLines false room (suc n) more ls | refuse number ↦ refused number (line n) ] ≡ accepted us
+    go : (c : Check (List Token)) → elim c [ pass more ↦ takeLines false room (suc n) more ls | refuse number ↦ refused number (line n) ] ≡
+        accepted us
         → ((more : List Token) → takeLines false room (suc n) more ls ≡ accepted us → Finishes false room us) → Finishes false room us
     go (pass more) k r = r more k
     go (refuse number) k r = absurd (accepted≢refused us number (line n) k)

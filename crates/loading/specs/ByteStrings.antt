@@ -15,7 +15,8 @@ use Rattle.spec.specs.Check.{Check, pass, refuse, given, need}
 use Rattle.spec.specs.Utf8.{Range, _to_, within, utf8Of, blank}
 use Rattle.spec.specs.Digits.{hexDigit, hexAfter, hexRun}
 use Rattle.spec.specs.Line.{lf, cr, lessCR, withLF, lastLine, linesAfter, lines, Fields, firstSpace, lastSpace, parted, placed, fields}
-use Rattle.spec.specs.Literal.{Piece, letters, lookUp, byteEscape, pointEscape, escaped, escape, plain, Read, bad, put, piece, closed, pieceAt, inside, quoted, readWith, whole, read, literal}
+use Rattle.spec.specs.Literal.{Piece, letters, lookUp, byteEscape, pointEscape, escaped, escape, plain, Read, bad, put, piece, closed}
+use Rattle.spec.specs.Literal.{pieceAt, inside, quoted, readWith, whole, read, literal}
 use Rattle.laws.specs.Tests.{and-l, and-r}
 use Rattle.loading.specs.Checks.{need-pass, given-pass}
 
@@ -56,9 +57,11 @@ last-bytes (b ∷ l) h = (less-bytes (b ∷ l) h, tt)
 after-bytes : (l s : List ℕ) → Bytes l → Bytes s → AllBytes (linesAfter l s)
 unfolding linesAfter
 after-bytes l [] h k = last-bytes l h
-after-bytes l (b ∷ s) h k = go (eqb b lf) (after-bytes [] s tt (k .1)) (after-bytes (l ++ (b ∷ [])) s (bytes-append l (b ∷ []) h (k .0, tt)) (k .1))
+after-bytes l (b ∷ s) h k = go (eqb b lf) (after-bytes [] s tt (k .1))
+    (after-bytes (l ++ (b ∷ [])) s (bytes-append l (b ∷ []) h (k .0, tt)) (k .1))
   where
-    go : (c : Bool) → AllBytes (linesAfter [] s) → AllBytes (linesAfter (l ++ (b ∷ [])) s) → AllBytes (cond c (withLF l ∷ linesAfter [] s) (linesAfter (l ++ (b ∷ [])) s))
+    go : (c : Bool) → AllBytes (linesAfter [] s) → AllBytes (linesAfter (l ++ (b ∷ [])) s)
+        → AllBytes (cond c (withLF l ∷ linesAfter [] s) (linesAfter (l ++ (b ∷ [])) s))
     go true p q = (less-bytes (lessCR l) (less-bytes l h), p)
     go false p q = q
 
@@ -73,8 +76,10 @@ lines-bytes text h = after-bytes [] text tt h
 pub fields-bytes : (line : List ℕ) (f : Fields) → fields line ≡ pass f → Bytes line → Bytes (f .literal)
 unfolding fields
 fields-bytes line f e h =
-    let (a, e₁) = need-pass 3 (not (blank line)) (given 4 (firstSpace line) (λ first. given 4 (lastSpace line) (λ last. need 5 (placed first last line) (pass (parted first last line))))) f e in
-    let (first, p, e₂) = given-pass 4 (firstSpace line) (λ first. given 4 (lastSpace line) (λ last. need 5 (placed first last line) (pass (parted first last line)))) f e₁ in
+    let (a, e₁) = need-pass 3 (not (blank line)) (given 4 (firstSpace line)
+    (λ first. given 4 (lastSpace line) (λ last. need 5 (placed first last line) (pass (parted first last line))))) f e in
+    let (first, p, e₂) = given-pass 4 (firstSpace line) (λ first. given 4 (lastSpace line)
+    (λ last. need 5 (placed first last line) (pass (parted first last line)))) f e₁ in
     let (last, q, e₃) = given-pass 4 (lastSpace line) (λ last. need 5 (placed first last line) (pass (parted first last line))) f e₂ in
     let (t, e₄) = need-pass 5 (placed first last line) (pass (parted first last line)) f e₃ in
     let z : parted first last line ≡ f = cc in
@@ -87,10 +92,13 @@ pub utf8-bytes : (c : ℕ) → Bytes (utf8Of c)
 unfolding utf8Of
 utf8-bytes c =
     bytes-cond (leb c 0x7F) (c ∷ []) _ (λ e. let h = leb-true c 0x7F e in (omega arith, tt)) (λ e.
-    bytes-cond (leb c 0x7FF) ((0xC0 + c / 64) ∷ (0x80 + c % 64) ∷ []) _ (λ e. let h = leb-true c 0x7FF e in (omega arith, (omega arith, tt))) (λ e.
+    bytes-cond (leb c 0x7FF) ((0xC0 + c / 64) ∷ (0x80 + c % 64) ∷ []) _
+    (λ e. let h = leb-true c 0x7FF e in (omega arith, (omega arith, tt))) (λ e.
     bytes-cond (within (0xD800 to 0xDFFF) c) [] _ (λ e. tt) (λ e.
-    bytes-cond (leb c 0xFFFF) ((0xE0 + c / 4096) ∷ (0x80 + c / 64 % 64) ∷ (0x80 + c % 64) ∷ []) _ (λ e. let h = leb-true c 0xFFFF e in (omega arith, (omega arith, (omega arith, tt)))) (λ e.
-    bytes-cond (leb c 0x10FFFF) ((0xF0 + c / 262144) ∷ (0x80 + c / 4096 % 64) ∷ (0x80 + c / 64 % 64) ∷ (0x80 + c % 64) ∷ []) [] (λ e. let h = leb-true c 0x10FFFF e in (omega arith, (omega arith, (omega arith, (omega arith, tt))))) (λ e. tt)))))
+    bytes-cond (leb c 0xFFFF) ((0xE0 + c / 4096) ∷ (0x80 + c / 64 % 64) ∷ (0x80 + c % 64) ∷ []) _
+    (λ e. let h = leb-true c 0xFFFF e in (omega arith, (omega arith, (omega arith, tt)))) (λ e.
+    bytes-cond (leb c 0x10FFFF) ((0xF0 + c / 262144) ∷ (0x80 + c / 4096 % 64) ∷ (0x80 + c / 64 % 64) ∷ (0x80 + c % 64) ∷ []) []
+    (λ e. let h = leb-true c 0x10FFFF e in (omega arith, (omega arith, (omega arith, (omega arith, tt))))) (λ e. tt)))))
 
 none≢some : {A : Type 0} (a : A) → none ≡ some a → ⊥
 none≢some a e = let z : _≡_ {A = ℕ} 0 1 = cc in omega arith
@@ -109,7 +117,8 @@ unfolding hexDigit
 digit-16 b d e =
     pick (within (0x30 to 0x39) b) (b - 0x30) _ (λ t. let h = between 0x30 0x39 b t in omega arith) (
     pick (within (0x61 to 0x66) b) (b - 0x61 + 10) _ (λ t. let h = between 0x61 0x66 b t in omega arith) (
-    pick (within (0x41 to 0x46) b) (b - 0x41 + 10) none (λ t. let h = between 0x41 0x46 b t in omega arith) (λ e. absurd (none≢some d e)))) e
+    pick (within (0x41 to 0x46) b) (b - 0x41 + 10) none (λ t. let h = between 0x41 0x46 b t in omega arith) (λ e. absurd (none≢some d e))))
+    e
   where
     pick : (c : Bool) (v : ℕ) (o : Option ℕ) → (c ≡ true → v < 16) → (o ≡ some d → d < 16) → cond c (some v) o ≡ some d → d < 16
     pick true v o a k e = let z : v ≡ d = cc in let w = a refl in omega arith
@@ -125,7 +134,8 @@ hex-bound (suc n) v w (b ∷ s) e =
     let h = digit-16 b d p in
     let k = hex-bound n (v * 16 + d) w s q in
     let m : (v * 16 + d + 1) * 16 ^ n ≤ (v + 1) * 16 * 16 ^ n = mul-le-mul-right (16 ^ n) (omega arith) in
-    let r : (v + 1) * 16 * 16 ^ n ≡ (v + 1) * 16 ^ (suc n) = mul-assoc (v + 1) 16 (16 ^ n) ∙ ap (λ (x : ℕ). (v + 1) * x) (sym (pow-succ' 16 n)) in
+    let r : (v + 1) * 16 * 16 ^ n ≡ (v + 1) * 16 ^ (suc n) = mul-assoc (v + 1) 16 (16 ^ n)
+    ∙ ap (λ (x : ℕ). (v + 1) * x) (sym (pow-succ' 16 n)) in
     omega arith
 
 escape-of : (n : ℕ) (o : Option (List ℕ)) (p : Piece) → ((bs : List ℕ) → o ≡ some bs → Bytes bs) → escaped n o ≡ some p → Bytes (p .bytes)
@@ -163,7 +173,8 @@ pieces-bytes inB (c ∷ s) p e = x-first (eqb c 0x78) (eqb c 0x75) e
         at v true e = absurd (none≢some bs e)
         at v false e = let z : utf8Of v ≡ bs = cc in subst Bytes z (utf8-bytes v)
 
-    x-first : (x u : Bool) → cond x (byteEscape inB s) (cond u (pointEscape inB s) (escaped 1 (lookUp letters c))) ≡ some p → Bytes (p .bytes)
+    x-first : (x u : Bool) → cond x (byteEscape inB s) (cond u (pointEscape inB s) (escaped 1 (lookUp letters c))) ≡ some p
+        → Bytes (p .bytes)
     x-first true u e = escape-of 3 (bind (hexRun 2 s) (λ v. some (cond inB (v ∷ []) (utf8Of v)))) p two e
     x-first false true e = escape-of 5 (bind (hexRun 4 s) (λ v. cond (inB || within (0xD800 to 0xDFFF) v) none (some (utf8Of v)))) p four e
     x-first false false e = escape-of 1 (lookUp letters c) p (λ bs k. letter-bytes letters c bs refl k) e
@@ -179,7 +190,8 @@ inside-bytes : (inB : Bool) (quote : ℕ) (s : List ℕ) (k : ℕ) → Bytes s �
 unfolding inside
 inside-bytes inB quote [] k h = tt
 inside-bytes inB quote (b ∷ s) (suc k) h = inside-bytes inB quote s k (h .1)
-inside-bytes inB quote (b ∷ s) zero h = go (pieceAt escape inB quote b s) (λ p e. one (eqb b 0x5C) p e) (λ k. inside-bytes inB quote s k (h .1))
+inside-bytes inB quote (b ∷ s) zero h = go (pieceAt escape inB quote b s) (λ p e. one (eqb b 0x5C) p e)
+    (λ k. inside-bytes inB quote s k (h .1))
   where
     one : (t : Bool) (p : Piece) → cond t (escape inB s) (plain inB quote b) ≡ some p → Bytes (p .bytes)
     one true p e = pieces-bytes inB s p e

@@ -1,5 +1,5 @@
 -- An accepted load leaves loaded memory: from a text to the theorems on matching, encoding and decoding. Assumes nothing.
-use mathlib.Core.Path.{_≡_, refl, sym, ap, _∙_, subst}
+use mathlib.Core.Path.{_≡_, refl, sym, ap, ap₂, _∙_, subst}
 use mathlib.Core.Bool.{Bool, true, false, not, cond}
 use mathlib.Core.Option.{Option, none, some}
 use mathlib.Core.List.{List, [], _∷_, _++_}
@@ -16,7 +16,9 @@ use Rattle.spec.specs.Literal.{literal}
 use Rattle.spec.specs.Token.{Token}
 use Rattle.spec.specs.Layout.{tableWords}
 use Rattle.spec.specs.Memory.{Memory, tooShort, memoryOf, Loaded}
-use Rattle.spec.specs.Load.{Room, idRule, lengthRule, readToken, readFields, readLine, admit, lastId, takeLine, Place, nowhere, line, byte, offset, Outcome, accepted, refused, missing, demanded, finish, takeLines, load, LoadResult, settled, turnedDown, loadOn}
+use Rattle.spec.specs.Load.{Room, idRule, lengthRule, readToken, readFields, readLine, admit, lastId, takeLine}
+use Rattle.spec.specs.Load.{Place, nowhere, line, byte, offset, Outcome, accepted, refused, missing, demanded, finish, takeLines, load}
+use Rattle.spec.specs.Load.{countsOf, LoadResult, settled, turnedDown, loadOn}
 use Rattle.spec.specs.Theorems.{LoadsLoaded}
 use Rattle.laws.specs.Reads.{loaded}
 use Rattle.loading.specs.Checks.{Numbered, pass-numbered, need-numbered, given-numbered, then-numbered}
@@ -37,11 +39,15 @@ fields-numbered l =
 
 length-numbered : (wanted : ℕ) (t : Token) → Numbered (lengthRule wanted t)
 unfolding lengthRule
-length-numbered wanted t = need-numbered _ _ _ (omega arith) (need-numbered _ _ _ (omega arith) (need-numbered _ _ _ (omega arith) (pass-numbered _)))
+length-numbered wanted t = need-numbered _ _ _ (omega arith) (need-numbered _ _ _ (omega arith)
+    (need-numbered _ _ _ (omega arith) (pass-numbered _)))
 
 fields-read : (previous : ℕ) (f : Fields) → Numbered (readFields previous f)
 unfolding readFields idRule readToken
-fields-read previous f = given-numbered _ _ _ (omega arith) (λ id. need-numbered _ _ _ (omega arith) (need-numbered _ _ _ (omega arith) (need-numbered _ _ _ (omega arith) (need-numbered _ _ _ (omega arith)
+fields-read previous f =
+    given-numbered _ _ _ (omega arith) (λ id.
+    need-numbered _ _ _ (omega arith)
+    (need-numbered _ _ _ (omega arith) (need-numbered _ _ _ (omega arith) (need-numbered _ _ _ (omega arith)
     (given-numbered _ _ _ (omega arith) (λ wanted. given-numbered _ _ _ (omega arith) (λ bytes. length-numbered wanted _)))))))
 
 line-numbered : (room : Room) (ts : List Token) (l : List ℕ) → Numbered (takeLine room ts l)
@@ -64,8 +70,9 @@ finish-refused partial room (t ∷ ts) n p e = go (demanded partial (missing (t 
 
     go : (o : Option ℕ)
         → elim o [
-            some b ↦ refused 20 (byte b)
-          | none ↦ cond (leb (tableWords (t ∷ ts)) (room .table)) (accepted (t ∷ ts)) (refused 21 nowhere) ] ≡ refused n p
+          | some b ↦ refused 20 (byte b)
+          | none ↦ cond (leb (tableWords (t ∷ ts)) (room .table)) (accepted (t ∷ ts)) (refused 21 nowhere)
+        ] ≡ refused n p
         → 3 ≤ n
     go (some b) e = let z : 20 ≡ n = cc in omega arith
     go none e = at (leb (tableWords (t ∷ ts)) (room .table)) e
@@ -101,37 +108,64 @@ load-accepted partial room text e = go (load partial room text) refl e
     go (accepted ts) q e = (ts, refl)
     go (refused n p) q e = let b = load-refused partial room text n p q in absurd (omega arith)
 
--- ---- the memory that it leaves
+-- ---- what a load answers and leaves
+
+-- the parts of `loadOn`, by its two tests
+module _ (k : ℕ) (partial : Bool) (nodes table : ℕ) (m : Memory) (text : List ℕ) where
+  abbrev pub stated : Outcome
+  stated = load partial (record { nodes = nodes; blob = length (m .blob); table = table }) text
+
+  abbrev pub tested : Bool → Bool → LoadResult
+  tested short good = elim short [
+    | true ↦ turnedDown 1 nowhere m
+    | false ↦ elim good [ false ↦ turnedDown 2 (offset k) m | true ↦ settled m stated ]
+  ]
+
+  pub by-tests : (short good : Bool) → tooShort m ≡ short → wellFormed text ≡ good → loadOn k partial nodes table m text ≡ tested short good
+  unfolding loadOn
+  by-tests short good a b = ap₂ tested a b
+
+number-is : (m : Memory) (o : Outcome) → settled m o .answer .number ≡ numberOf o
+unfolding settled
+number-is m (accepted ts) = refl
+number-is m (refused n p) = refl
+
+-- a load that answers 0: it passed both tests, and the text was accepted
+pub record Passed (k : ℕ) (partial : Bool) (nodes table : ℕ) (m : Memory) (text : List ℕ) : Type 0 where
+  pub long : tooShort m ≡ false
+  pub good : wellFormed text ≡ true
+  pub tokens : List Token
+  pub accepts : stated k partial nodes table m text ≡ accepted tokens
+
+pub passed : (k : ℕ) (partial : Bool) (nodes table : ℕ) (m : Memory) (text : List ℕ)
+    → loadOn k partial nodes table m text .answer .number ≡ 0 → Passed k partial nodes table m text
+passed k partial nodes table m text e =
+    go (tooShort m) (wellFormed text) refl refl
+    (ap (λ (x : LoadResult). x .answer .number) (sym (by-tests k partial nodes table m text (tooShort m) (wellFormed text) refl refl)) ∙ e)
+  where
+    go : (short good : Bool) → tooShort m ≡ short → wellFormed text ≡ good
+        → tested k partial nodes table m text short good .answer .number ≡ 0 → Passed k partial nodes table m text
+    go true good a b e = absurd (omega arith)
+    go false false a b e = absurd (omega arith)
+    go false true a b e =
+        let o = stated k partial nodes table m text in
+        let (ts, q) = load-accepted partial _ text (sym (number-is m o) ∙ e) in
+        record { long = a; good = b; tokens = ts; accepts = q }
+
+-- what a load that states tokens answers and leaves
+pub loads-accepted : (k : ℕ) (partial : Bool) (nodes table : ℕ) (m : Memory) (text : List ℕ) → tooShort m ≡ false → wellFormed text ≡ true
+    → (ts : List Token) → stated k partial nodes table m text ≡ accepted ts
+    → loadOn k partial nodes table m text
+    ≡ record { answer = record { number = 0; place = nowhere; counts = countsOf ts }; memory = memoryOf ts m }
+unfolding settled
+loads-accepted k partial nodes table m text a b ts e = by-tests k partial nodes table m text false true a b ∙ ap (settled m) e
 
 -- An accepted load leaves loaded memory.
 pub loads-loaded : LoadsLoaded
-unfolding loadOn settled
-loads-loaded k partial nodes table m text h room e = short (tooShort m) refl e
-  where
-    r : Room
-    r = record { nodes = nodes; blob = length (m .blob); table = table }
-
-    number-is : (o : Outcome) → settled m o .answer .number ≡ numberOf o
-    number-is (accepted ts) = refl
-    number-is (refused n p) = refl
-
-    left : (c : Bool) → Bool → LoadResult
-    left c w = elim c [ true ↦ turnedDown 1 nowhere m | false ↦ elim w [ false ↦ turnedDown 2 (offset k) m | true ↦ settled m (load partial r text) ] ]
-
-    kept : tooShort m ≡ false → (ts : List Token) → load partial r text ≡ accepted ts → Loaded (settled m (load partial r text) .memory) ts
-    kept s ts a =
-        let (held, done) = load-accepts partial r text h ts a in
-        let t : tableWords ts ≤ length (m .table) = let d = done .table in omega arith in
-        subst (λ (o : Outcome). Loaded (settled m o .memory) ts) (sym a) (loaded ts m s (held .blob) t (held .valid))
-
-    well : (w : Bool) → tooShort m ≡ false → left false w .answer .number ≡ 0
-        → (ts : List Token) × (load partial r text ≡ accepted ts) × Loaded (left false w .memory) ts
-    well false s e = absurd (omega arith)
-    well true s e =
-        let (ts, a) = load-accepted partial r text (sym (number-is (load partial r text)) ∙ e) in
-        (ts, a, kept s ts a)
-
-    short : (c : Bool) → tooShort m ≡ c → left c (wellFormed text) .answer .number ≡ 0
-        → (ts : List Token) × (load partial r text ≡ accepted ts) × Loaded (left c (wellFormed text) .memory) ts
-    short true s e = absurd (omega arith)
-    short false s e = well (wellFormed text) s e
+loads-loaded k partial nodes table m text h room e =
+    let P = passed k partial nodes table m text e in
+    let ts = P .tokens in
+    let (held, done) = load-accepts partial _ text h ts (P .accepts) in
+    let t : tableWords ts ≤ length (m .table) = let d = done .table in omega arith in
+    let q = loads-accepted k partial nodes table m text (P .long) (P .good) ts (P .accepts) in
+    (ts, P .accepts, subst (λ (x : LoadResult). Loaded (x .memory) ts) (sym q) (loaded ts m (P .long) (held .blob) t (held .valid)))

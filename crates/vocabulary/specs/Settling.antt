@@ -20,7 +20,7 @@ use Rattle.spec.specs.Load.{LoadResult, turnedDown, settled, loadOn, LoadsTo}
 use Rattle.spec.specs.Load as spec
 use Rattle.trie.specs.Run.{room}
 use Rattle.laws.specs.Reads.{single-length, offset-length, root-length}
-use Rattle.loading.specs.Left.{load-refused}
+use Rattle.loading.specs.Left.{load-refused, by-tests}
 use Rattle.utf8.specs.Means.{textMeans}
 use Rattle.utf8.specs.declared.Text.{Text}
 use Rattle.utf8.specs.declared.Text.the-variants as Text
@@ -191,23 +191,11 @@ module _ (partial : Bool) (nodes table : ℕ) (m : Memory) (text : List ℕ) whe
   abbrev R : Room
   R = record { nodes = nodes; blob = length (m .blob); table = table }
 
-  -- the parts of `loadOn`, by its two tests
-  abbrev tested : ℕ → Bool → Bool → LoadResult
-  tested k short good = elim short [
-    | true ↦ turnedDown 1 nowhere m
-    | false ↦ elim good [ false ↦ turnedDown 2 (offset k) m | true ↦ settled m (load partial R text) ]
-  ]
-
-  by-tests : (k : ℕ) (short good : Bool) → tooShort m ≡ short → wellFormed text ≡ good
-      → loadOn k partial nodes table m text ≡ tested k short good
-  unfolding loadOn
-  by-tests k short good a b = ap₂ (tested k) a b
-
   pub loads-short : tooShort m ≡ true → (a : Load) → a ≡ Load.Refused (record { number = 1; place = Place.Nowhere })
       → LoadsTo partial nodes table m text (loaded a m)
   loads-short e a q = record {
     bad = 0;
-    result = ap (λ (x : Load). loaded x m) q ∙ sym (by-tests 0 true (wellFormed text) e refl);
+    result = ap (λ (x : Load). loaded x m) q ∙ sym (by-tests 0 partial nodes table m text true (wellFormed text) e refl);
     starts = λ k. absurd (let z = ap (λ (x : Load). answerOf x .number) q in omega arith);
   }
 
@@ -216,7 +204,8 @@ module _ (partial : Bool) (nodes table : ℕ) (m : Memory) (text : List ℕ) whe
   loads-bad e t f i g a q =
       let b : firstBad text ≡ some i = sym f ∙ ap textMeans g in record {
         bad = i;
-        result = ap (λ (x : Load). loaded x m) q ∙ sym (by-tests i false false e (well-formed-first text ∙ ap isNone b));
+        result = ap (λ (x : Load). loaded x m) q ∙ sym (by-tests i partial nodes table m text false false e
+            (well-formed-first text ∙ ap isNone b));
         starts = λ k. first-bad-ill text i b;
       }
 
@@ -230,7 +219,7 @@ module _ (partial : Bool) (nodes table : ℕ) (m : Memory) (text : List ℕ) whe
       → (r : LoadResult) → r ≡ settled m (load partial R text) → LoadsTo partial nodes table m text r
   loads-text e t f g r q = record {
     bad = 0;
-    result = q ∙ sym (by-tests 0 false true e (well-formed-first text ∙ ap isNone (sym f ∙ ap textMeans g)));
+    result = q ∙ sym (by-tests 0 partial nodes table m text false true e (well-formed-first text ∙ ap isNone (sym f ∙ ap textMeans g)));
     starts = λ k. absurd (not-two (load partial R text) refl (ap (λ (x : LoadResult). x .answer .number) (sym q) ∙ k));
   }
 

@@ -1,0 +1,215 @@
+-- Text in, ids out: for every text that a load accepts, what matching, encoding, decoding and the running encoder give over the memory that
+-- it left is said on the tokens that the text states, whatever the memory held before. Assumes nothing.
+use mathlib.Core.Path.{_≡_, refl, sym, ap, ap₂, _∙_, subst}
+use mathlib.Core.Bool.{Bool, true, false}
+use mathlib.Core.Option.{none}
+use mathlib.Core.List.{List, [], _∷_, _++_}
+use Prim.Native.Nat.{ℕ, suc, _+_, _≤_, _<_}
+use native.Mathlib.Omega.{arith}
+use lib.ListN.{length, take}
+use borrow.Author.Tests.{le-leb}
+use Rattle.spec.specs.Lists.{all, each, Bytes}
+use Rattle.spec.specs.Answer.{whole}
+use Rattle.spec.specs.Utf8.{wellFormed, firstBad, lossy}
+use Rattle.spec.specs.Token.{Token, longest, bytesOf, joined, present, Full}
+use Rattle.spec.specs.Scan.{done, scan}
+use Rattle.spec.specs.Valid.{Valid}
+use Rattle.spec.specs.Memory.{Memory, tooShort, memoryOf, Loaded}
+use Rattle.spec.specs.Match.{matchOn}
+use Rattle.spec.specs.Encode.{Encoding, encoding, encodeAnswer, Output, encodeOn}
+use Rattle.spec.specs.Decode.{lookup, Decoding, decoding, decodeOutput, decodeOn, textAnswer, textOutput, decodeTextOn}
+use Rattle.spec.specs.Decode.{firstAbsent, lossyOutput, decodeLossyOn}
+use Rattle.spec.specs.Load.{tableRoom, nowhere, Outcome, accepted, load, countsOf, LoadResult, loadOn, LoadsTo}
+use Rattle.spec.specs.Stream.{Call, fresh}
+use Rattle.spec.specs.Plain.{Plain, start, Follows, repliesOn, BytePieces}
+use Rattle.spec.specs.Theorems.{matchOf, encodeEnd}
+use Rattle.running.specs.ScanLaws.{ids-present, round-trip}
+use Rattle.laws.specs.Tests.{and-l, and-r}
+use Rattle.laws.specs.Spans.{looking, present-bytes}
+use Rattle.laws.specs.Matching.{matching}
+use Rattle.laws.specs.Encoding.{encoding-is-scan, encoding-is-cut}
+use Rattle.laws.specs.Decoding.{decoding-joins, decoding-stops, decoding-fills}
+use Rattle.loading.specs.Accepted.{full-is-full}
+use Rattle.loading.specs.Left.{passed, loads-accepted, loads-loaded}
+use Rattle.demands.specs.Room.{loaded-long}
+use Rattle.demands.specs.Demand3.{demand3}
+
+-- ---- the statements
+
+-- What the memory m gives, said on the tokens ts alone: demand 2, and demand 3 as it stands.
+pub record Gives (ts : List Token) (m : Memory) : Type 0 where
+  -- a match is the longest token
+  pub matches : (s : List ℕ) → Bytes s → matchOn m s ≡ matchOf (longest ts s)
+  -- an encoding is the scan, where the output has room for its ids
+  pub encodes : (s : List ℕ) → Bytes s → (n : ℕ) → length (scan ts s .ids) ≤ n
+      → encodeOn m n s ≡ record { answer = encodeAnswer (length (scan ts s .ids)) (encodeEnd (scan ts s .end)); cells = scan ts s .ids }
+  -- else its first n ids, and 23 where their bytes end
+  pub cuts : (s : List ℕ) → Bytes s → (n : ℕ) → n < length (scan ts s .ids)
+      → encodeOn m n s ≡ record {
+        answer = record {
+          number = 23;
+          count = length (take n (scan ts s .ids));
+          place = length (joined ts (take n (scan ts s .ids)));
+          value = 0;
+        };
+        cells = take n (scan ts s .ids);
+      }
+  -- a list of present ids decodes to its tokens joined, where these fit
+  pub decodes : (ids : List ℕ) → all (present ts) ids ≡ true → (n : ℕ) → length (joined ts ids) ≤ n
+      → decodeOn m n ids ≡ record { answer = whole (length (joined ts ids)); cells = joined ts ids }
+  -- another gives 27 at its first absent id
+  pub stops : (ids : List ℕ) → all (present ts) ids ≡ true → (i : ℕ) (rest : List ℕ) → present ts i ≡ false
+      → (n : ℕ) → length (joined ts ids) ≤ n
+      → decodeOn m n (ids ++ i ∷ rest) ≡ record {
+        answer = record { number = 27; count = length (joined ts ids); place = length ids; value = i };
+        cells = joined ts ids;
+      }
+  -- and 28 comes at the first present id whose bytes no longer fit
+  pub fills : (ids : List ℕ) → all (present ts) ids ≡ true → (i : ℕ) (rest : List ℕ) → present ts i ≡ true
+      → (n : ℕ) → length (joined ts ids) ≤ n → n < length (joined ts ids) + length (bytesOf ts i)
+      → decodeOn m n (ids ++ i ∷ rest) ≡ record {
+        answer = record { number = 28; count = length (joined ts ids); place = length ids; value = 0 };
+        cells = joined ts ids;
+      }
+  -- as text: those bytes, and 29 with the first bad offset if they are not UTF-8
+  pub texts : (ids : List ℕ) → all (present ts) ids ≡ true → (n : ℕ) → length (joined ts ids) ≤ n
+      → decodeTextOn m n ids ≡ record { answer = textAnswer (joined ts ids) (firstBad (joined ts ids)); cells = joined ts ids }
+  -- as lossy text, where that fits
+  pub loses : (ids : List ℕ) → all (present ts) ids ≡ true → (n : ℕ) → length (lossy (joined ts ids)) ≤ n
+      → decodeLossyOn m n ids ≡ record { answer = whole (length (lossy (joined ts ids))); cells = lossy (joined ts ids) }
+  -- the ids of a whole encoding decode to its input
+  pub returns : (s : List ℕ) → scan ts s .end ≡ done → (n : ℕ) → length s ≤ n
+      → decodeOn m n (scan ts s .ids) ≡ record { answer = whole (length s); cells = s }
+  -- the calls of a fresh stream are those of the plain stream
+  pub streams : (cs : List Call) → BytePieces cs → (q : Plain) × Follows ts start cs (repliesOn m fresh cs) q
+
+-- The load of a text into m, with room for so many nodes and marks, as the contracts of the entries say it.
+module _ (partial : Bool) (nodes used bases : ℕ) (m : Memory) (text : List ℕ) (r : LoadResult) where
+  abbrev pub Loads : Type 0
+  Loads = LoadsTo partial nodes (tableRoom (length (m .table)) used bases) m text r
+
+  -- what the text states
+  abbrev pub states : Outcome
+  states = load partial (record { nodes = nodes; blob = length (m .blob); table = tableRoom (length (m .table)) used bases }) text
+
+  -- A load that answers 0 stated tokens: the answer has their counts, and the memory left gives what they say. In full mode every byte
+  -- is one of them.
+  pub record TextIn (ts : List Token) : Type 0 where
+    pub tokens : states ≡ accepted ts
+    pub counts : r .answer .counts ≡ countsOf ts
+    pub valid : Valid ts
+    pub gives : Gives ts (r .memory)
+    pub full : partial ≡ false → Full ts
+
+  abbrev pub TextInIdsOut : Type 0
+  TextInIdsOut = Bytes text → Loads → r .answer .number ≡ 0 → (ts : List Token) × TextIn ts
+
+  -- A text that states tokens is accepted with their counts and their memory, where that is long enough for number 1 and the text is UTF-8.
+  abbrev pub TextAccepted : Type 0
+  TextAccepted = Loads → tooShort m ≡ false → wellFormed text ≡ true → (ts : List Token) → states ≡ accepted ts
+      → r ≡ record { answer = record { number = 0; place = nowhere; counts = countsOf ts }; memory = memoryOf ts m }
+
+-- ---- the proofs
+
+room-table : (table used bases : ℕ) → tableRoom table used bases ≤ table
+unfolding tableRoom
+room-table table used bases = omega arith
+
+-- on memory that is long enough, an entry answers by its definition without number 1
+module _ (m : Memory) (long : tooShort m ≡ false) (n : ℕ) where
+  encode-on : (s : List ℕ) (e : Encoding) → encoding m n s ≡ e
+      → encodeOn m n s ≡ record { answer = encodeAnswer (length (e .ids)) (e .end); cells = e .ids }
+  unfolding encodeOn
+  encode-on s e q = rw (long, encodeOn) (ap (λ (x : Encoding). encodeOutput x) q)
+    where
+      encodeOutput : Encoding → Output
+      encodeOutput x = record { answer = encodeAnswer (length (x .ids)) (x .end); cells = x .ids }
+
+  decode-on : (ids : List ℕ) (d : Decoding) → decoding m n ids ≡ d → decodeOn m n ids ≡ decodeOutput d
+  unfolding decodeOn
+  decode-on ids d q = rw (long, decodeOn) (ap decodeOutput q)
+
+  text-on : (ids : List ℕ) (d : Decoding) → decoding m n ids ≡ d → decodeTextOn m n ids ≡ textOutput d (d .end)
+  unfolding decodeTextOn
+  text-on ids d q = rw (long, decodeTextOn) (ap (λ (x : Decoding). textOutput x (x .end)) q)
+
+  lossy-on : (ids : List ℕ) → firstAbsent m 0 ids ≡ none → length (lossy (each (lookup m) ids)) ≤ n
+      → decodeLossyOn m n ids
+      ≡ record { answer = whole (length (lossy (each (lookup m) ids))); cells = lossy (each (lookup m) ids) }
+  unfolding decodeLossyOn lossyOutput
+  lossy-on ids a h = rw (long, decodeLossyOn) (rw (a, lossyOutput) (rw (le-leb (length (lossy (each (lookup m) ids))) n h)))
+
+-- no id is absent, and the bytes found are the tokens'
+module _ {m : Memory} {ts : List Token} (L : Loaded m ts) where
+  none-absent : (ids : List ℕ) (index : ℕ) → all (present ts) ids ≡ true → firstAbsent m index ids ≡ none
+  unfolding firstAbsent all
+  none-absent [] index p = refl
+  none-absent (i ∷ ids) index p =
+      go (lookup m i) refl
+      (let h = present-bytes ts (L .valid) i (and-l (present ts i) (all (present ts) ids) p) in
+      subst (λ (bs : List ℕ). 1 ≤ length bs) (sym (looking m ts L i)) h)
+      (none-absent ids (suc index) (and-r (present ts i) (all (present ts) ids) p))
+    where
+      go : (bs : List ℕ) → lookup m i ≡ bs → 1 ≤ length (lookup m i) → firstAbsent m (suc index) ids ≡ none
+          → firstAbsent m index (i ∷ ids) ≡ none
+      go [] e h r = absurd (let k = ap length e in omega arith)
+      go (b ∷ bs) e h r = rw (e, firstAbsent) r
+
+  looked : (ids : List ℕ) → each (lookup m) ids ≡ joined ts ids
+  unfolding each joined
+  looked [] = refl
+  looked (i ∷ ids) = ap₂ (λ (x y : List ℕ). x ++ y) (looking m ts L i) (looked ids)
+
+-- loaded memory gives what its tokens say
+pub loaded-gives : (m : Memory) (ts : List Token) → Loaded m ts → Gives ts m
+loaded-gives m ts L =
+    let l = loaded-long m ts L in record {
+      matches = matching m ts L;
+      encodes = λ s h n k. encode-on m l n s _ (encoding-is-scan m ts L s h n k);
+      cuts = λ s h n k. encode-on m l n s _ (encoding-is-cut m ts L s h n k);
+      decodes = λ ids p n k. decode-on m l n ids _ (decoding-joins m ts L ids p n k);
+      stops = λ ids p i rest a n k. decode-on m l n (ids ++ i ∷ rest) _ (decoding-stops m ts L ids p i rest a n k);
+      fills = λ ids p i rest a n k f. decode-on m l n (ids ++ i ∷ rest) _ (decoding-fills m ts L ids p i rest a n k f);
+      texts = λ ids p n k. text-on m l n ids _ (decoding-joins m ts L ids p n k) ∙ (unfold textOutput in refl);
+      loses = λ ids p n k.
+          subst (λ (bs : List ℕ). length (lossy bs) ≤ n → decodeLossyOn m n ids ≡ record {
+            answer = whole (length (lossy bs));
+            cells =
+                lossy bs;
+          })
+          (looked L ids) (lossy-on m l n ids (none-absent L ids 0 p)) k;
+      returns = λ s e n k. back l s (round-trip ts (L .valid) s e) n k;
+      streams = demand3 m ts L;
+    }
+  where
+    back : tooShort m ≡ false → (s : List ℕ) → joined ts (scan ts s .ids) ≡ s → (n : ℕ) → length s ≤ n
+        → decodeOn m n (scan ts s .ids) ≡ record { answer = whole (length s); cells = s }
+    back l s j n k =
+        let room : length (joined ts (scan ts s .ids)) ≤ n = subst (λ (x : List ℕ). length x ≤ n) (sym j) k in
+        decode-on m l n (scan ts s .ids) _ (decoding-joins m ts L (scan ts s .ids) (ids-present ts (L .valid) s) n room)
+        ∙ ap (λ (x : List ℕ). record { answer = whole (length x); cells = x }) j
+
+pub text-in-ids-out : (partial : Bool) (nodes used bases : ℕ) (m : Memory) (text : List ℕ) (r : LoadResult)
+    → TextInIdsOut partial nodes used bases m text r
+text-in-ids-out partial nodes used bases m text r h L e =
+    let table = tableRoom (length (m .table)) used bases in
+    let zero : loadOn (L .bad) partial nodes table m text .answer .number ≡ 0 = ap (λ (x : LoadResult). x .answer .number)
+    (sym (L .result)) ∙ e in
+    let P = passed (L .bad) partial nodes table m text zero in
+    let (ts, a, M) = loads-loaded (L .bad) partial nodes table m text h (room-table (length (m .table)) used bases) zero in
+    let q = L .result ∙ loads-accepted (L .bad) partial nodes table m text (P .long) (P .good) ts a in (
+      ts,
+      record {
+        tokens = a;
+        counts = ap (λ (x : LoadResult). x .answer .counts) q;
+        valid = M .valid;
+        gives = loaded-gives (r .memory) ts (subst (λ (x : LoadResult). Loaded (x .memory) ts) (sym (L .result)) M);
+        full = λ f. full-is-full _ text ts (ap (λ (b : Bool). load b (record { nodes = nodes; blob = length (m .blob); table = table })
+            text) (sym f) ∙ a);
+      },
+    )
+
+pub text-accepted : (partial : Bool) (nodes used bases : ℕ) (m : Memory) (text : List ℕ) (r : LoadResult)
+    → TextAccepted partial nodes used bases m text r
+text-accepted partial nodes used bases m text r L s w ts a =
+    L .result ∙ loads-accepted (L .bad) partial nodes (tableRoom (length (m .table)) used bases) m text s w ts a
