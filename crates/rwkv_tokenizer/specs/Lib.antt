@@ -1,2 +1,3 @@
 -- What the contracts of the exported calls cite beside the definitions of `spec`.
 pub mod Report
+pub mod Lent

@@ -2,5 +2,6 @@
 // carries, and 0 for those that it does not.
 mod decode;
 mod encode;
+mod lent;
 mod load;
 mod report;

@@ -1,0 +1,3 @@
+-- What the proofs of several lent calls use.
+mod Leaving
+mod Rows
