@@ -16,11 +16,11 @@ use Rattle.demands.specs.OnTokens.{Agrees}
 use Rattle.demands.specs.Room.{loaded-long}
 use Rattle.demands.specs.Calls.{Good, next}
 
-replies-nil : (m : Memory) (r : StreamRecord) → repliesOn m r [] ≡ []
+pub replies-nil : (m : Memory) (r : StreamRecord) → repliesOn m r [] ≡ []
 unfolding repliesOn
 replies-nil m r = refl
 
-replies-cons : (m : Memory) (r : StreamRecord) (c : Call) (cs : List Call)
+pub replies-cons : (m : Memory) (r : StreamRecord) (c : Call) (cs : List Call)
     → repliesOn m r (c ∷ cs) ≡ replyTo c (callOn m r c) ∷ repliesOn m (callOn m r c .stream) cs
 unfolding repliesOn
 replies-cons m r c cs = refl

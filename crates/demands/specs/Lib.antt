@@ -5,4 +5,5 @@ pub mod Calls
 pub mod Demand3
 pub mod Determined
 pub mod Consequences
+pub mod Lent
 pub mod TextIn
