@@ -1,16 +1,14 @@
 -- Runs of one value from the start of each part make the emptied memory. Assumes nothing.
-use mathlib.Core.Path.{_≡_, refl, sym, ap, ap₂, _∙_}
-use mathlib.Core.List.{List, [], _∷_, _++_, append-nil}
+use mathlib.Core.Path.{_≡_, ap, _∙_}
+use mathlib.Core.List.{List, _++_, append-nil}
 use Prim.Native.Nat.{ℕ, _+_, _≤_}
 use native.Mathlib.Nat.{le-refl}
 use native.Mathlib.Omega.{arith}
 use lib.IntN.{ℤ, negsuc}
-use lib.Dec.{ltb}
 use lib.ListN.{length, drop, replicate, length-replicate}
 use lib.Seq.{sets, sets-eq, drop-length}
-use borrow.Author.Tests.{le-ltb}
 use Rattle.spec.specs.Lists.{over}
-use Rattle.spec.specs.Memory.{Memory, memory, tooShort, emptied}
+use Rattle.spec.specs.Memory.{memory, emptied}
 use Rattle.laws.specs.Reads.{LongEnough}
 use Rattle.builder.specs.Finish.{same-memory}
 
@@ -41,8 +39,3 @@ module _ (s : List ℤ) (os bl rs tb : List ℕ) (long : LongEnough (memory s os
       (c ∙ whole bl)
       (d ∙ front rs 65536 0 (long .roots))
       (e ∙ whole tb)
-
--- the last test of number 1
-pub short-roots : (s : List ℤ) (os rs : List ℕ) → 256 ≤ length s → 65537 ≤ length os → ltb (length rs) 65536 ≡ tooShort (memory s os [] rs [])
-unfolding tooShort
-short-roots s os rs h k = rw (le-ltb _ _ h, le-ltb _ _ k)

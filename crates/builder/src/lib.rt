@@ -9,7 +9,7 @@ ghost use lib.IntN.{pos};
 ghost use lib.ListN.{length, drop};
 ghost use lib.Seq.{sets};
 ghost use Rattle.spec.specs.Token.{Token};
-ghost use Rattle.spec.specs.Memory.{memory, tooShort, emptied};
+ghost use Rattle.spec.specs.Memory.{memory, emptied};
 ghost use Rattle.spec.specs.Load.{Room, tableRoom, lastId, demanded};
 ghost use Rattle.laws.specs.Reads.{LongEnough};
 ghost use Rattle.loading.specs.Accepted.{Reads};
@@ -17,19 +17,6 @@ ghost use Rattle.trie.specs.Run.{room};
 ghost use Rattle.trie.specs.Stands.{Grown};
 ghost use Rattle.builder.specs.Built.{Built, Kept, Small, roomFor, PushedAs, isTaken, setSingle, setOffsets};
 ghost use Rattle.builder.specs.Built.{missingOn, missingOf, FinishedAs};
-
-// Number 1: "`single`, offsets or roots too short".
-pub fn too_short(single: &[i32], offsets: &[u32], roots: &[u64]) -> bool
-    ensures { λ r. ⌜ r ≡ tooShort (memory (now (single .entry)) (now (offsets .entry)) [] (now (roots .entry)) []) ⌝ }
-{
-    if single.len() < 256 {
-        return true;
-    }
-    if offsets.len() < 65537 {
-        return true;
-    }
-    roots.len() < 65536
-}
 
 // "After 3 to 21 the vocabulary memory is emptied: `single` all −1, the rest 0."
 pub fn empty(

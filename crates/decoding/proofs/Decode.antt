@@ -2,15 +2,15 @@
 use mathlib.Core.Path.{_≡_, refl, ap, sym, _∙_}
 use mathlib.Core.Bool.{Bool, true, false}
 use mathlib.Core.List.{List, [], _∷_, _++_, append-assoc, append-nil}
-use Prim.Native.Nat.{ℕ, zero, suc, _+_, _-_, _≤_, _<_, zero-le}
+use Prim.Native.Nat.{ℕ, suc, _+_, _-_, _≤_, _<_, zero-le}
 use native.Mathlib.Omega.{arith}
 use native.Mathlib.Numerals.{add-one}
 use native.Mathlib.Nat.{not-suc-le-zero, sub-zero}
-use lib.Dec.{leb, ltb}
+use lib.Dec.{leb}
 use lib.ListN.{length, take, drop, getD, length-append, drop-of-length-le, take-append-drop}
-use lib.Seq.{take-suc, take-add, take-all, drop-cons}
+use lib.Seq.{take-suc, take-add, drop-cons}
 use borrow.Author.Count.{below-none, below-more}
-use borrow.Author.Tests.{le-ltb, le-leb, lt-leb, leb-true, leb-false}
+use borrow.Author.Tests.{le-leb, lt-leb, leb-true, leb-false}
 use Rattle.spec.specs.Lists.{each, over}
 use lib.IntN.{ℤ}
 use Rattle.spec.specs.Memory.{Memory, memory, tooShort}
@@ -68,7 +68,8 @@ module _ (f : ℕ → List ℕ) where
   -- one id more
   pub each-more : (ids : List ℕ) (k : ℕ) → k < length ids → each f (take (k + 1) ids) ≡ each f (take k ids) ++ f (getD ids k 0)
   each-more ids k h =
-      rw (add-one, take-suc ids k 0 h) (each-append (take k ids) (getD ids k 0 ∷ []) ∙ ap (λ (r : List ℕ). each f (take k ids) ++ r) (each-one (getD ids k 0)))
+      rw (add-one, take-suc ids k 0 h) (each-append (take k ids) (getD ids k 0 ∷ []) ∙ ap (λ (r : List ℕ). each f (take k ids) ++ r)
+      (each-one (getD ids k 0)))
 
   -- fewer ids have no more bytes
   pub each-fewer : (ids : List ℕ) (k n : ℕ) → k ≤ n → length (each f (take k ids)) ≤ length (each f (take n ids))
@@ -205,18 +206,8 @@ module _ (m : Memory) (ids : List ℕ) (k n total : ℕ) (before after : List �
 
 -- ---- both passes
 
--- where `single` and offsets are long enough, number 1 is about the roots alone
-pub short-roots : (single : List ℤ) (offsets roots : List ℕ) → 256 ≤ length single → 65537 ≤ length offsets
-    → ltb (length roots) 65536 ≡ tooShort (memory single offsets [] roots [])
-unfolding tooShort
-short-roots single offsets roots hs ho = rw (le-ltb _ _ hs, le-ltb _ _ ho)
-
--- number 1 does not look at the blob or the table, and decoding looks at nothing but the offsets and the blob
+-- decoding looks at nothing but the offsets and the blob
 module _ (single : List ℤ) (offsets blob roots table : List ℕ) where
-  pub short-same : tooShort (memory single offsets blob roots table) ≡ tooShort (memory single offsets [] roots [])
-  unfolding tooShort
-  short-same = refl
-
   pub lookup-same : lookup (memory single offsets blob roots table) ≡ lookup (tokens offsets blob)
   unfolding lookup
   lookup-same = refl
@@ -226,7 +217,8 @@ module _ (single : List ℤ) (offsets blob roots table : List ℕ) where
       → ((n k : ℕ) → decodeAt (memory single offsets blob roots table) n k ids ≡ decodeAt (tokens offsets blob) n k ids)
       → (l : List ℕ) → lookup (tokens offsets blob) i ≡ l → (c : Bool) → leb (length l) n ≡ c
       → decodeAt (memory single offsets blob roots table) n k (i ∷ ids) ≡ decodeAt (tokens offsets blob) n k (i ∷ ids)
-  same-step n k i ids after [] e c h = decode-absent _ n k i ids (ap (λ (f : ℕ → List ℕ). f i) lookup-same ∙ e) ∙ sym (decode-absent _ n k i ids e)
+  same-step n k i ids after [] e c h = decode-absent _ n k i ids (ap (λ (f : ℕ → List ℕ). f i) lookup-same ∙ e) ∙ sym
+      (decode-absent _ n k i ids e)
   same-step n k i ids after (b ∷ bs) e true h =
       let fits = leb-true (length (b ∷ bs)) n h in
       decode-fits _ n k i ids (b ∷ bs) (ap (λ (f : ℕ → List ℕ). f i) lookup-same ∙ e) (omega arith) fits
@@ -237,13 +229,16 @@ module _ (single : List ℤ) (offsets blob roots table : List ℕ) where
       decode-full _ n k i ids (b ∷ bs) (ap (λ (f : ℕ → List ℕ). f i) lookup-same ∙ e) (omega arith) over
       ∙ sym (decode-full _ n k i ids (b ∷ bs) e (omega arith) over)
 
-  decodeAt-same : (n k : ℕ) (ids : List ℕ) → decodeAt (memory single offsets blob roots table) n k ids ≡ decodeAt (tokens offsets blob) n k ids
+  decodeAt-same : (n k : ℕ) (ids : List ℕ) → decodeAt (memory single offsets blob roots table) n k ids ≡ decodeAt (tokens offsets blob) n
+      k ids
   unfolding decodeAt
   decodeAt-same n k [] = refl
   decodeAt-same n k (i ∷ ids) =
-      same-step n k i ids (λ (a b : ℕ). decodeAt-same a b ids) (lookup (tokens offsets blob) i) refl (leb (length (lookup (tokens offsets blob) i)) n) refl
+      same-step n k i ids (λ (a b : ℕ). decodeAt-same a b ids) (lookup (tokens offsets blob) i) refl
+      (leb (length (lookup (tokens offsets blob) i)) n) refl
 
-  pub decoding-same : (n : ℕ) (ids : List ℕ) → decoding (memory single offsets blob roots table) n ids ≡ decoding (tokens offsets blob) n ids
+  pub decoding-same : (n : ℕ) (ids : List ℕ) → decoding (memory single offsets blob roots table) n ids ≡ decoding (tokens offsets blob) n
+      ids
   unfolding decoding
   decoding-same n ids = decodeAt-same n 0 ids
 
@@ -256,15 +251,15 @@ unfolding decodeOn
 on-enough m n ids e = rw (e, decodeOn)
 
 module _ (single : List ℤ) (offsets blob roots table ids before : List ℕ) (n : ℕ) where
-  pub answered-short : tooShort (memory single offsets [] roots []) ≡ true
-      → Answered (decodeOn (memory single offsets blob roots table) n ids) ShortMemory before before
-  answered-short h =
-      rw (on-short (memory single offsets blob roots table) n ids (short-same single offsets blob roots table ∙ h))
-      (record { answer = refl; cells = refl })
+  abbrev whole-memory : Memory
+  whole-memory = memory single offsets blob roots table
 
-  pub answered : (r : Decoded) (after : List ℕ) → tooShort (memory single offsets [] roots []) ≡ false → Measured (tokens offsets blob) n ids r
+  pub answered-short : tooShort whole-memory ≡ true → Answered (decodeOn whole-memory n ids) ShortMemory before before
+  answered-short h = rw (on-short whole-memory n ids h) (record { answer = refl; cells = refl })
+
+  pub answered : (r : Decoded) (after : List ℕ) → tooShort whole-memory ≡ false → Measured (tokens offsets blob) n ids r
       → after ≡ over (each (lookup (tokens offsets blob)) (take (takenOf r (length ids)) ids)) before
-      → Answered (decodeOn (memory single offsets blob roots table) n ids) r before after
+      → Answered (decodeOn whole-memory n ids) r before after
   answered r after h d w =
-      rw (on-enough (memory single offsets blob roots table) n ids (short-same single offsets blob roots table ∙ h))
+      rw (on-enough whole-memory n ids h)
       (rw (decoding-same single offsets blob roots table n ids) (record { answer = d .answer; cells = w ∙ rw (d .bytes) }))

@@ -5,14 +5,10 @@ use mathlib.Core.List.{List, [], _∷_, _++_, append-assoc}
 use Prim.Native.Nat.{ℕ, zero, suc, _+_, _-_, _≤_, _<_}
 use native.Mathlib.Omega.{arith}
 use native.Mathlib.Numerals.{add-one}
-use native.Mathlib.Nat.{add-assoc}
 use Rattle.decoding.specs.Copy.{Placed}
-use lib.ListN.{length, take, drop, getD, set, length-append, length-take, length-drop}
+use lib.ListN.{length, take, drop, getD, set, length-drop}
 use lib.Seq.{
   paste,
-  length-paste,
-  take-at,
-  drop-at,
   drop-drop,
   take-take,
   take-add,
@@ -21,7 +17,6 @@ use lib.Seq.{
   take-append-le,
   length-take-le,
   length-paste-head,
-  sets,
   sets-eq,
   drop-cons,
   getD-drop,
@@ -120,7 +115,8 @@ placed d at s p len n end ln hs he hd =
     }
 
 -- cells from a later end on are untouched too
-pub placed-later : (d : List ℕ) (at : ℕ) (t : List ℕ) (end later : ℕ) (d′ : List ℕ) → end ≤ later → Placed d at t end d′ → Placed d at t later d′
+pub placed-later : (d : List ℕ) (at : ℕ) (t : List ℕ) (end later : ℕ) (d′ : List ℕ) → end ≤ later → Placed d at t end d′ → Placed d at t
+    later d′
 placed-later d at t end later d′ h p =
     let e : later ≡ end + (later - end) = omega arith in
     record {

@@ -1,12 +1,12 @@
 -- The steps of the passes of lossy decoding. Each says that what is left from here gives what was left from the start. Assumes nothing.
 use mathlib.Core.Path.{_≡_, refl, ap, sym, _∙_}
 use mathlib.Core.List.{List, [], _∷_, _++_, append-assoc, append-nil}
-use Prim.Native.Nat.{ℕ, zero, suc, _+_, _-_, _≤_, _<_}
+use Prim.Native.Nat.{ℕ, _+_, _-_, _≤_, _<_}
 use native.Mathlib.Omega.{arith}
 use native.Mathlib.Numerals.{add-one}
 use native.Mathlib.Nat.{add-zero, zero-add}
-use lib.ListN.{length, take, drop, getD, length-append, length-take, length-drop, length-replicate, drop-of-length-le, take-append-drop}
-use lib.Seq.{paste, length-paste, drop-cons, getD-take, getD-drop, take-length, take-append-seam, drop-append-seam, length-take-le, append-snoc}
+use lib.ListN.{length, take, drop, getD, length-append, length-drop, length-replicate, drop-of-length-le, take-append-drop}
+use lib.Seq.{paste, length-paste, drop-cons, getD-take, getD-drop, take-length, length-take-le}
 use Rattle.spec.specs.Lists.{each, over}
 use Rattle.spec.specs.Utf8.{lossy}
 use Rattle.spec.specs.Memory.{Memory}
@@ -127,31 +127,34 @@ pub writing-none : (held : Held) (len : ℕ) (t before : List ℕ) → len + len
     → Writing (heldOf held) t len before held len t before
 writing-none held len t before f = record { same = refl; fits = f; text = refl; along = along-none held len t }
 
-module _ (h t : List ℕ) (n : ℕ) (before : List ℕ) (held : Held) (len : ℕ) (s after : List ℕ) (w : Writing h t n before held len s after) where
-  -- at the end
-  pub writing-all : s ≡ [] → after ≡ put before n (run h t .out)
-  writing-all e = sym (w .text ∙ put-none after len _ (ap (λ (l : List ℕ). run (heldOf held) l .out) e ∙ ap (λ (u : Turn). u .out) (run-nil (heldOf held))))
+module _ (h t : List ℕ) (n : ℕ) (before : List ℕ) (held : Held) (len : ℕ) (s after : List ℕ) (w : Writing h t n before held len s after)
+  where
+    -- at the end
+    pub writing-all : s ≡ [] → after ≡ put before n (run h t .out)
+    writing-all e = sym (w .text ∙ put-none after len _ (ap (λ (l : List ℕ). run (heldOf held) l .out) e ∙ ap (λ (u : Turn). u .out)
+        (run-nil (heldOf held))))
 
-  module _ (b : ℕ) (rest : List ℕ) (e : s ≡ b ∷ rest) (r : Pushed) (p : r ≡ pushedAs (pushOf (heldOf held) b)) where
-    -- what a byte brings fits
-    pub writing-room : len + r .len ≤ length after
-    writing-room = omega (arith, w .fits, split h t n held len b rest s e (w .along) r p)
+    module _ (b : ℕ) (rest : List ℕ) (e : s ≡ b ∷ rest) (r : Pushed) (p : r ≡ pushedAs (pushOf (heldOf held) b)) where
+      -- what a byte brings fits
+      pub writing-room : len + r .len ≤ length after
+      writing-room = omega (arith, w .fits, split h t n held len b rest s e (w .along) r p)
 
-    -- one byte more
-    pub writing-more : (next : List ℕ) → next ≡ paste after len (drop 0 (r .bytes)) (r .len) → Writing h t n before (r .held) (len + r .len) rest next
-    writing-more next c =
-        let x = pushOf (heldOf held) b .out in
-        let l : r .len ≡ length x = pushed-len h t n held len b rest s e (w .along) r p in
-        let put-it : next ≡ put after len x = c ∙ copied after len x (r .bytes) (r .len) 6 (ap (λ (y : Pushed). y .bytes) p) l in
-        let size : length next ≡ length after = ap length put-it ∙ length-put after len x (omega (arith, writing-room)) in
-        let bytes : run (heldOf held) s .out ≡ x ++ run (heldOf (r .held)) rest .out =
-        ap (λ (u : Turn). u .out) (step h t n held len b rest s e (w .along) r p) in
-        record {
-          same = size ∙ w .same;
-          fits = omega (arith, w .fits, split h t n held len b rest s e (w .along) r p);
-          text = w .text ∙ rw (bytes, put-it, l) (put-more after len x (run (heldOf (r .held)) rest .out) (omega (arith, writing-room)));
-          along = along-more h t n held len b rest s e (w .along) r p;
-        }
+      -- one byte more
+      pub writing-more : (next : List ℕ) → next ≡ paste after len (drop 0 (r .bytes)) (r .len) → Writing h t n before (r .held)
+          (len + r .len) rest next
+      writing-more next c =
+          let x = pushOf (heldOf held) b .out in
+          let l : r .len ≡ length x = pushed-len h t n held len b rest s e (w .along) r p in
+          let put-it : next ≡ put after len x = c ∙ copied after len x (r .bytes) (r .len) 6 (ap (λ (y : Pushed). y .bytes) p) l in
+          let size : length next ≡ length after = ap length put-it ∙ length-put after len x (omega (arith, writing-room)) in
+          let bytes : run (heldOf held) s .out ≡ x ++ run (heldOf (r .held)) rest .out =
+          ap (λ (u : Turn). u .out) (step h t n held len b rest s e (w .along) r p) in
+          record {
+            same = size ∙ w .same;
+            fits = omega (arith, w .fits, split h t n held len b rest s e (w .along) r p);
+            text = w .text ∙ rw (bytes, put-it, l) (put-more after len x (run (heldOf (r .held)) rest .out) (omega (arith, writing-room)));
+            along = along-more h t n held len b rest s e (w .along) r p;
+          }
 
 -- ── the text of ids ──────────────────────────────────────────────────
 
@@ -221,7 +224,8 @@ module _ (m : Memory) (ids : List ℕ) where
         → room < length (lossy (each (lookup m) ids))
     size-over room h o = omega (arith, text-part k held h)
 
-    pub size-last : (r : Pushed) → length ids ≤ k → r ≡ pushedAs (finishOf (heldOf held)) → length (lossy (each (lookup m) ids)) ≡ n + r .len
+    pub size-last : (r : Pushed) → length ids ≤ k → r ≡ pushedAs (finishOf (heldOf held)) → length (lossy (each (lookup m) ids)) ≡ n +
+        r .len
     size-last r h p = omega (arith, ap length (text-last k held h), ap (λ (x : Pushed). x .len) p)
 
   -- ── its writing
@@ -247,7 +251,8 @@ module _ (m : Memory) (ids : List ℕ) where
     left-more p next h r c =
         let x = run (heldOf held) (lookup m (getD ids k 0)) .out in
         let t : left k held ≡ x ++ left (k + 1) (p .held) = text-next k held n p h r in
-        let s : length (left k held) ≡ length x + length (left (k + 1) (p .held)) = ap length t ∙ length-append x (left (k + 1) (p .held)) in
+        let s : length (left k held) ≡ length x + length (left (k + 1) (p .held)) = ap length t ∙ length-append x
+        (left (k + 1) (p .held)) in
         let size : length next ≡ length after = ap length c ∙ length-put after n x (left-room h) in
         record {
           same = size ∙ w .same;
@@ -261,7 +266,8 @@ module _ (m : Memory) (ids : List ℕ) where
 
       pub left-none : (next : List ℕ) → next ≡ paste after n (drop 0 (r .bytes)) (r .len) → next ≡ over (lossy (each (lookup m) ids)) before
       left-none next c =
-          c ∙ copied after n (finishOf (heldOf held) .out) (r .bytes) (r .len) 6 (ap (λ (y : Pushed). y .bytes) p) (ap (λ (y : Pushed). y .len) p)
+          c ∙ copied after n (finishOf (heldOf held) .out) (r .bytes) (r .len) 6 (ap (λ (y : Pushed). y .bytes) p)
+          (ap (λ (y : Pushed). y .len) p)
           ∙ ap (put after n) (sym (text-last k held h)) ∙ sym (w .text) ∙ rw zero-add
 
 finish-few : (h : List ℕ) → length (finishOf h .out) ≤ 6

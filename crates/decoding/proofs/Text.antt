@@ -1,12 +1,12 @@
 -- Text decoding follows from decoding to bytes. Assumes nothing.
 use mathlib.Core.Path.{_≡_, refl, ap, sym, _∙_}
 use mathlib.Core.Bool.{Bool, true, false}
-use mathlib.Core.Option.{Option, none, some}
-use mathlib.Core.List.{List, [], _∷_, _++_}
+use mathlib.Core.Option.{none, some}
+use mathlib.Core.List.{List, [], _∷_}
 use Prim.Native.Nat.{ℕ, zero, suc, _+_, _-_, _≤_, _<_}
 use native.Mathlib.Omega.{arith}
 use native.Mathlib.Nat.{not-suc-le-zero, add-zero, zero-add}
-use lib.ListN.{length, take, drop, getD, length-append, length-drop}
+use lib.ListN.{length, take, getD, length-append}
 use lib.Seq.{take-append-seam}
 use borrow.Author.Tests.{le-leb, lt-leb}
 use Rattle.spec.specs.Lists.{each, over}
@@ -17,7 +17,6 @@ use Rattle.spec.specs.Memory.{Memory, memory, tooShort}
 use Rattle.spec.specs.Encode.{Output, refused}
 use Rattle.spec.specs.Decode.{
   lookup,
-  Decoding,
   DecodeEnd,
   complete,
   absent,
@@ -36,8 +35,8 @@ use Rattle.decoding.specs.declared.Decoded.{Decoded}
 use Rattle.decoding.specs.declared.Decoded.the-variants.{Whole, ShortMemory, Absent, Full, NotUtf8}
 use Rattle.decoding.specs.Answers.{answerOf, Answered}
 use Rattle.decoding.specs.Measured.{tokens}
-use Rattle.decoding.specs.Lossy.{FirstAbsent, AllPresent, SizeIs}
-use Rattle.decoding.proofs.Decode.{short-same, lookup-same, on-short, on-enough}
+use Rattle.decoding.specs.Lossy.{FirstAbsent, AllPresent}
+use Rattle.decoding.proofs.Decode.{lookup-same, on-short, on-enough}
 
 -- what text decoding makes of an output of decoding to bytes
 abbrev pub textOf : ℕ → Output → Output
@@ -199,14 +198,12 @@ module _ (single : List ℤ) (offsets blob roots table ids before : List ℕ) (n
   unfolding lookup
   same-absent k f = record { within = f .within; present = f .present; absent = f .absent }
 
-  pub lossy-answered-short : tooShort (memory single offsets [] roots []) ≡ true
-      → Answered (decodeLossyOn whole-memory n ids) ShortMemory before before
-  lossy-answered-short h =
-      rw (lossy-short whole-memory n ids (short-same single offsets blob roots table ∙ h)) (record { answer = refl; cells = refl })
+  pub lossy-answered-short : tooShort whole-memory ≡ true → Answered (decodeLossyOn whole-memory n ids) ShortMemory before before
+  lossy-answered-short h = rw (lossy-short whole-memory n ids h) (record { answer = refl; cells = refl })
 
-  module _ (h : tooShort (memory single offsets [] roots []) ≡ false) (k : ℕ) (f : FirstAbsent (tokens offsets blob) ids k) where
+  module _ (h : tooShort whole-memory ≡ false) (k : ℕ) (f : FirstAbsent (tokens offsets blob) ids k) where
     on-memory : decodeLossyOn whole-memory n ids ≡ lossyOutput whole-memory n ids (firstAbsent whole-memory 0 ids)
-    on-memory = lossy-enough whole-memory n ids (short-same single offsets blob roots table ∙ h)
+    on-memory = lossy-enough whole-memory n ids h
 
     -- 27: an id is absent
     pub lossy-answered-absent : k < length ids → Answered (decodeLossyOn whole-memory n ids) (Absent 0 k (getD ids k 0)) before before

@@ -1,6 +1,6 @@
 -- What the passes of lossy decoding give. Assumes nothing.
 use mathlib.Core.Path.{_≡_}
-use mathlib.Core.List.{List, [], _∷_, _++_}
+use mathlib.Core.List.{List, [], _++_}
 use Prim.Native.Nat.{ℕ, _+_, _≤_, _<_}
 use lib.ListN.{length, take, drop, getD}
 use Rattle.spec.specs.Memory.{Memory}

@@ -4,7 +4,6 @@ use mathlib.Core.List.{List, []}
 use Prim.Native.Nat.{ℕ, _≤_, _<_}
 use lib.ListN.{length, take, getD}
 use Rattle.spec.specs.Lists.{each}
-use Rattle.spec.specs.Answer.{Answer}
 use Rattle.spec.specs.Memory.{Memory, memory}
 use Rattle.spec.specs.Decode.{lookup, decoding, decodeOutput}
 use Rattle.decoding.specs.declared.Decoded.{Decoded}

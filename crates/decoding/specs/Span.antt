@@ -2,12 +2,12 @@
 -- definitions is `span-lookup`. Assumes nothing.
 use mathlib.Core.Path.{_≡_, refl, ap, sym, _∙_}
 use mathlib.Core.Bool.{Bool, true, false, _&&_, cond, and-eq-true-iff}
-use mathlib.Core.List.{List, [], _∷_}
+use mathlib.Core.List.{List, []}
 use Prim.Native.Nat.{ℕ, _+_, _-_, _≤_, _<_, zero-le}
 use lib.Dec.{leb, ltb}
 use lib.ListN.{length, take, drop, getD, List·getD-eq-default, length-drop}
 use lib.Seq.{length-take-le}
-use borrow.Author.Tests.{le-ltb, lt-ltb, le-leb, lt-leb, ltb-true, ltb-false, leb-true, leb-false}
+use borrow.Author.Tests.{le-ltb, lt-ltb, le-leb, lt-leb, ltb-true, ltb-false, leb-true}
 use native.Mathlib.Omega.{arith}
 use Rattle.spec.specs.Memory.{Memory}
 use Rattle.spec.specs.Decode.{lookup}

@@ -1,10 +1,9 @@
 // Decoding ids on any vocabulary memory: the lookup of a token, decoding to bytes, to text and to lossy text.
 ghost use mathlib.Core.Path.{_≡_};
-ghost use mathlib.Core.List.{[]};
 ghost use Prim.Native.Nat.{_+_, _-_, _<_, _≤_};
 ghost use lib.ListN.{length, take, getD};
 ghost use Rattle.spec.specs.Lists.{each, over};
-ghost use Rattle.spec.specs.Memory.{memory, tooShort};
+ghost use Rattle.spec.specs.Memory.{memory};
 ghost use Rattle.spec.specs.Decode.{lookup as lookupOf, decodeOn, decodeTextOn, decodeLossyOn};
 ghost use Rattle.decoding.specs.Answers.{answerOf, takenOf, Answered};
 ghost use Rattle.decoding.specs.Span.{spanOf};
@@ -129,19 +128,6 @@ fn write_tokens(
     }
 }
 
-// Number 1: "`single`, offsets or roots too short".
-fn too_short(single: &[i32], offsets: &[u32], roots: &[u64]) -> bool
-    ensures { λ r. ⌜ r ≡ tooShort (memory (now (single .entry)) (now (offsets .entry)) [] (now (roots .entry)) []) ⌝ }
-{
-    if single.len() < 256 {
-        return true;
-    }
-    if offsets.len() < 65537 {
-        return true;
-    }
-    roots.len() < 65536
-}
-
 // How many of n ids an answer has decoded: all, or those before its index.
 fn taken(answer: Decoded, n: usize) -> usize
     ensures { λ r. ⌜ r ≡ takenOf answer n ⌝ }
@@ -190,7 +176,7 @@ pub fn decode_bytes(
         (memory (now (single .entry)) (now (offsets .entry)) (now (blob .entry)) (now (roots .entry)) (now (table .entry)))
         (length (now (out .entry))) (now (ids .entry))) r (now (out .entry)) (now (out .exit)) ⌝ }
 {
-    if too_short(single, offsets, roots) {
+    if memory::too_short(single, offsets, roots) {
         return Decoded::ShortMemory;
     }
     let answer = measure(offsets, blob, ids, out.len());
@@ -238,7 +224,7 @@ pub fn decode_lossy(
         (memory (now (single .entry)) (now (offsets .entry)) (now (blob .entry)) (now (roots .entry)) (now (table .entry)))
         (length (now (out .entry))) (now (ids .entry))) r (now (out .entry)) (now (out .exit)) ⌝ }
 {
-    if too_short(single, offsets, roots) {
+    if memory::too_short(single, offsets, roots) {
         return Decoded::ShortMemory;
     }
     let index = lossy::first_absent(offsets, blob, ids);

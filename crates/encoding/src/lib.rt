@@ -6,7 +6,7 @@ ghost use Prim.Native.Nat.{ℕ, _+_, _*_, _≤_, _<_, min};
 ghost use lib.IntN.{ℤ, pos};
 ghost use lib.ListN.{length, drop, getD};
 ghost use lib.Seq.{slice};
-ghost use Rattle.spec.specs.Memory.{memory, tooShort};
+ghost use Rattle.spec.specs.Memory.{memory};
 ghost use Rattle.spec.specs.Match.{idIn, baseIn, noWalk, onto, enter, walkOn, one, matchOn, undecidedOn};
 ghost use Rattle.spec.specs.Encode.{encodeOn};
 ghost use Rattle.encoding.specs.Answers.{walkOf, trailOf, matchOf, child, Answered};
@@ -243,20 +243,6 @@ pub fn row_open(roots: &[u64], first: u8) -> bool
     false
 }
 
-// Number 1: `single`, offsets or roots too short.
-pub fn short_memory(single: &[i32], offsets: &[u32], roots: &[u64]) -> bool
-    ensures { λ r. ⌜ ((blob table : List ℕ) →
-        r ≡ tooShort (memory (now (single .entry)) (now (offsets .entry)) blob (now (roots .entry)) table)) ⌝ }
-{
-    if single.len() < 256 {
-        return true;
-    }
-    if offsets.len() < 65537 {
-        return true;
-    }
-    roots.len() < 65536
-}
-
 // The ids of the whole input, written from the output's start.
 pub fn encode_sequential_bytes(
     single: &[i32],
@@ -271,7 +257,7 @@ pub fn encode_sequential_bytes(
         (memory (now (single .entry)) (now (offsets .entry)) (now (blob .entry)) (now (roots .entry)) (now (table .entry)))
         (length (now (out .entry))) (now (src .entry))) r (now (out .entry)) (now (out .exit)) ⌝ }
 {
-    if short_memory(single, offsets, roots) {
+    if memory::too_short(single, offsets, roots) {
         return Encoded::ShortMemory;
     }
     let mut i: usize = 0;

@@ -338,7 +338,7 @@ pub fn add(
         (memory (now (single .entry)) (now (offsets .entry)) (now (blob .entry)) (now (roots .entry)) (now (table .entry)))
         (recordOf stream) (spec.add (now (piece .entry)) (now (out .entry)))) r (now (out .entry)) (now (out .exit)) ⌝ }
 {
-    if encoding::short_memory(single, offsets, roots) {
+    if memory::too_short(single, offsets, roots) {
         return Called {
             stream,
             answer: Answer::ShortMemory,
@@ -367,7 +367,7 @@ pub fn end(
         (memory (now (single .entry)) (now (offsets .entry)) (now (blob .entry)) (now (roots .entry)) (now (table .entry)))
         (recordOf stream) (spec.end (now (out .entry)))) r (now (out .entry)) (now (out .exit)) ⌝ }
 {
-    if encoding::short_memory(single, offsets, roots) {
+    if memory::too_short(single, offsets, roots) {
         return Called {
             stream,
             answer: Answer::ShortMemory,

@@ -222,8 +222,3 @@ module _ (partial : Bool) (nodes table : ℕ) (m : Memory) (text : List ℕ) whe
     result = q ∙ sym (by-tests 0 partial nodes table m text false true e (well-formed-first text ∙ ap isNone (sym f ∙ ap textMeans g)));
     starts = λ k. absurd (not-two (load partial R text) refl (ap (λ (x : LoadResult). x .answer .number) (sym q) ∙ k));
   }
-
--- number 1 is a matter of three parts
-pub same-short : (s : List ℤ) (os bl rs tb : List ℕ) → tooShort (memory s os bl rs tb) ≡ tooShort (memory s os [] rs [])
-unfolding tooShort
-same-short s os bl rs tb = refl

@@ -194,7 +194,7 @@ pub fn from_vocab_str_mode(
         (now (text .entry))
         (loaded r (memory (now (single .exit)) (now (offsets .exit)) (now (blob .exit)) (now (roots .exit)) (now (table .exit)))) ⌝ }
 {
-    if builder::too_short(single, offsets, roots) {
+    if memory::too_short(single, offsets, roots) {
         return refused(1, Place::Nowhere);
     }
     let found = utf8::first_bad(text);

@@ -1,7 +1,8 @@
+-- `decoding::decode_utf8` meets its contract: the answer of decoding to bytes, and the first bad offset of what was written. Assumes
+-- nothing.
 use borrow.Author.Needs.{needs}
 use mathlib.Core.Path.{_≡_, sym, ap, _∙_}
 use mathlib.Core.List.{[], _∷_}
-use mathlib.Core.Logic.{⊎-elim}
 use native.Mathlib.Omega.{arith}
 use types.Run.{OneOf, miss}
 use denote.Enum.Declared.{tagOf}
@@ -16,10 +17,6 @@ use Rattle.decoding.proofs.Decoded as Decoded·proofs
 use Rattle.decoding.proofs.Text.{text-other, text-good, text-bad, whole-inside}
 use Rattle.decoding.proofs.decode_utf8.Statement.{statement}
 use Rattle.decoding.proofs.decode_utf8.Tie as tie
-use Rattle.decoding.proofs.decode_utf8.Reads as reads
-use Rattle.decoding.proofs.decode_utf8.Lts as lts
-use Rattle.decoding.proofs.decode_bytes.Reads as decode-bytes-reads
-use Rattle.utf8.proofs.first_bad.Reads as first-bad-reads
 
 -- an answer that is not the first case is a refusal
 other : (r : Decoded) → OneOf (1 ∷ 2 ∷ 3 ∷ 4 ∷ []) (tagOf Decoded·proofs.the-type r) → answerOf r .number ≡ 0 → ⊥
@@ -29,28 +26,24 @@ other (Absent len index id) k e = omega arith
 other (Full len index) k e = omega arith
 other (NotUtf8 len offset) k e = omega arith
 
--- src/lib.rt:196:9
 decode-bytes-requires : tie.Need-decode-bytes-requires
 decode-bytes-requires c κs = search needs
 
--- src/lib.rt:197:26
 enum-known-answer : tie.Need-enum-known-answer
 enum-known-answer c = search needs
 
--- src/lib.rt:198:9
 same-length : tie.Need-same-length
 same-length c = search needs
 
--- src/lib.rt:198:9
 returns : tie.Need-returns
 returns c =
     let a = c .before .before .before .before .before .before .before .before .before .before .before .args in
     let m = memory (a .single .now) (a .offsets .now) (a .blob .now) (a .roots .now) (a .table .now) in
     let n = length (a .out .now) in
     let b = c .before .before .before .decode-bytes in
-    text-other m n (a .ids .now) (a .out .now) (b .last .1 .1 .1 .1 .1 .1 .0) (b .kept .1 .1 .1 .1 .1 .1 .0) (b .result) (other (b .result) (c .match .keys2)) (b .ensures)
+    text-other m n (a .ids .now) (a .out .now) (b .last .1 .1 .1 .1 .1 .1 .0) (b .kept .1 .1 .1 .1 .1 .1 .0) (b .result)
+    (other (b .result) (c .match .keys2)) (b .ensures)
 
--- src/lib.rt:200:53
 slice-reshare-prefix-first-bad : tie.Need-slice-reshare-prefix-first-bad
 slice-reshare-prefix-first-bad c =
     let a = c .before .before .before .before .before .before .before .before .before .before .before .before .before .args in
@@ -58,9 +51,9 @@ slice-reshare-prefix-first-bad c =
     let n = length (a .out .now) in
     let b = c .before .before .before .before .before .decode-bytes in
     let d = rw (c .before .answer .given .1) at (b .ensures) in
-    whole-inside m n (a .ids .now) (a .out .now) (b .last .1 .1 .1 .1 .1 .1 .0) (b .kept .1 .1 .1 .1 .1 .1 .0) (c .before .answer .given .0 .0) d
+    whole-inside m n (a .ids .now) (a .out .now) (b .last .1 .1 .1 .1 .1 .1 .0) (b .kept .1 .1 .1 .1 .1 .1 .0)
+    (c .before .answer .given .0 .0) d
 
--- src/lib.rt:200:53
 slice-aggregate-first-bad : tie.Need-slice-aggregate-first-bad
 slice-aggregate-first-bad c =
     let a = c .before .before .before .before .before .before .before .before .before .before .before .before .before .before .args in
@@ -68,48 +61,46 @@ slice-aggregate-first-bad c =
     let n = length (a .out .now) in
     let b = c .before .before .before .before .before .before .decode-bytes in
     let d = rw (c .before .before .answer .given .1) at (b .ensures) in
-    sym (length-take-le _ _ (whole-inside m n (a .ids .now) (a .out .now) (b .last .1 .1 .1 .1 .1 .1 .0) (b .kept .1 .1 .1 .1 .1 .1 .0) (c .before .before .answer .given .0 .0) d))
+    sym (length-take-le _ _ (whole-inside m n (a .ids .now) (a .out .now) (b .last .1 .1 .1 .1 .1 .1 .0) (b .kept .1 .1 .1 .1 .1 .1 .0)
+    (c .before .before .answer .given .0 .0) d))
 
--- src/lib.rt:200:37
 first-bad-requires : tie.Need-first-bad-requires
 first-bad-requires c κs = search needs
 
--- src/lib.rt:200:27
 enum-known-offset : tie.Need-enum-known-offset
 enum-known-offset c = search needs
 
--- src/lib.rt:201:9
 enum-told : tie.Need-enum-told
 enum-told c = search needs
 
--- src/lib.rt:201:9
 same-length-2 : tie.Need-same-length-2
 same-length-2 c = search needs
 
--- src/lib.rt:201:9
 returns-2 : tie.Need-returns-2
 returns-2 c =
-    let a = c .before .before .before .before .before .before .before .before .before .before .before .before .before .before .before .before .before .args in
+    let a = c .before .before .before .before .before .before .before .before .before .before .before .before .before .before
+    .before .before .before .args in
     let m = memory (a .single .now) (a .offsets .now) (a .blob .now) (a .roots .now) (a .table .now) in
     let n = length (a .out .now) in
     let b = c .before .before .before .before .before .before .before .before .before .decode-bytes in
     let d = rw (c .before .before .before .before .before .answer .given .1) at (b .ensures) in
-    text-good m n (a .ids .now) (a .out .now) (b .last .1 .1 .1 .1 .1 .1 .0) (b .kept .1 .1 .1 .1 .1 .1 .0) (c .before .before .before .before .before .answer .given .0 .0) d
+    text-good m n (a .ids .now) (a .out .now) (b .last .1 .1 .1 .1 .1 .1 .0) (b .kept .1 .1 .1 .1 .1 .1 .0)
+    (c .before .before .before .before .before .answer .given .0 .0) d
     (sym (c .before .before .first-bad .ensures) ∙ ap textMeans (c .enum-told .given .1))
 
--- src/lib.rt:183:1
 same-length-3 : tie.Need-same-length-3
 same-length-3 c = search needs
 
--- src/lib.rt:183:1
 returns-3 : tie.Need-returns-3
 returns-3 c =
-    let a = c .before .before .before .before .before .before .before .before .before .before .before .before .before .before .before .before .before .before .args in
+    let a = c .before .before .before .before .before .before .before .before .before .before .before .before .before .before
+    .before .before .before .before .args in
     let m = memory (a .single .now) (a .offsets .now) (a .blob .now) (a .roots .now) (a .table .now) in
     let n = length (a .out .now) in
     let b = c .before .before .before .before .before .before .before .before .before .before .decode-bytes in
     let d = rw (c .before .before .before .before .before .before .answer .given .1) at (b .ensures) in
-    text-bad m n (a .ids .now) (a .out .now) (b .last .1 .1 .1 .1 .1 .1 .0) (b .kept .1 .1 .1 .1 .1 .1 .0) (c .before .before .before .before .before .before .answer .given .0 .0) d
+    text-bad m n (a .ids .now) (a .out .now) (b .last .1 .1 .1 .1 .1 .1 .0) (b .kept .1 .1 .1 .1 .1 .1 .0)
+    (c .before .before .before .before .before .before .answer .given .0 .0) d
     (c .before .offset .given .0 .0) (sym (c .before .before .before .first-bad .ensures) ∙ ap textMeans (c .before .offset .given .1))
 
 pub decode-utf8-spec : {M : Type 1} → statement M

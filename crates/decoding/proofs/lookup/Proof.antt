@@ -1,3 +1,4 @@
+-- `decoding::lookup` meets its contract: each test is one of `spanOf`. Assumes nothing.
 use mathlib.Core.Path.{sym}
 use Prim.Native.Nat.{_+_}
 use native.Mathlib.Omega.{arith}
@@ -5,70 +6,52 @@ use borrow.Author.Needs.{needs}
 use Rattle.decoding.specs.Span.{span-far, span-unpaired, span-empty, span-past, span-long, span-token}
 use Rattle.decoding.proofs.lookup.Statement.{statement}
 use Rattle.decoding.proofs.lookup.Tie as tie
-use Rattle.decoding.proofs.lookup.Reads as reads
-use Rattle.decoding.proofs.lookup.Lts as lts
 
--- src/lib.rt:23:9
 returns : tie.Need-returns
 returns c = sym (span-far _ _ _ (c .if1 .taken))
 
--- src/lib.rt:25:8
 add-if2 : tie.Need-add-if2
 add-if2 c = search needs
 
--- src/lib.rt:26:9
 returns-2 : tie.Need-returns-2
 returns-2 c = sym (span-unpaired _ _ _ (omega arith) (c .if2 .taken))
 
--- src/lib.rt:28:17
 mul-start : tie.Need-mul-start
 mul-start c = search needs
 
--- src/lib.rt:28:17
 shared-slice-read-start : tie.Need-shared-slice-read-start
 shared-slice-read-start c = search needs
 
--- src/lib.rt:28:17
 cast-start : tie.Need-cast-start
 cast-start c = omega (arith, c .shared-slice-known .given (c .before .before .before .args .id))
 
--- src/lib.rt:29:23
 add-end : tie.Need-add-end
 add-end c = search needs
 
--- src/lib.rt:29:15
 mul-end : tie.Need-mul-end
 mul-end c = search needs
 
--- src/lib.rt:29:15
 shared-slice-read-end : tie.Need-shared-slice-read-end
 shared-slice-read-end c = search needs
 
--- src/lib.rt:29:15
 cast-end : tie.Need-cast-end
 cast-end c = omega (arith, c .shared-slice-known2 .given (c .before .before .before .before .args .id + 1))
 
--- src/lib.rt:31:9
 returns-3 : tie.Need-returns-3
 returns-3 c = sym (span-empty _ _ _ (omega arith) (c .if3 .taken))
 
--- src/lib.rt:34:9
 returns-4 : tie.Need-returns-4
 returns-4 c = sym (span-past _ _ _ (omega arith) (c .before .if3 .left) (c .if4 .taken))
 
--- src/lib.rt:36:8
 sub-if5 : tie.Need-sub-if5
 sub-if5 c = search needs
 
--- src/lib.rt:37:9
 returns-5 : tie.Need-returns-5
 returns-5 c = sym (span-long _ _ _ (omega arith) (c .before .before .if3 .left) (c .before .if4 .left) (omega arith))
 
--- src/lib.rt:39:31
 sub-t9 : tie.Need-sub-t9
 sub-t9 c = search needs
 
--- src/lib.rt:18:1
 returns-6 : tie.Need-returns-6
 returns-6 c = sym (span-token _ _ _ (omega arith) (c .before .before .if3 .left) (c .before .if4 .left) (omega arith))
 

@@ -1,5 +1,6 @@
-use mathlib.Core.Path.{_≡_, refl, ap, sym, _∙_}
-use Prim.Native.Nat.{ℕ, _+_, _-_, _≤_, _<_}
+-- `decoding::measure` meets its contract. The loop's invariant: the ids passed have bytes, and they fit. Assumes nothing.
+use mathlib.Core.Path.{sym, _∙_}
+use Prim.Native.Nat.{_-_}
 use native.Mathlib.Omega.{arith}
 use borrow.Author.Needs.{needs}
 use lib.ListN.{length, getD}
@@ -9,9 +10,6 @@ use Rattle.decoding.specs.Measured.{tokens}
 use Rattle.decoding.proofs.Decode.{Passed, passed-none, passed-more, ends-whole, ends-absent, ends-full}
 use Rattle.decoding.proofs.measure.Statement.{statement}
 use Rattle.decoding.proofs.measure.Tie as tie
-use Rattle.decoding.proofs.measure.Reads as reads
-use Rattle.decoding.proofs.measure.Lts as lts
-use Rattle.decoding.proofs.lookup.Reads as lookup-reads
 
 abbrev Inv-loop : tie.InvT-loop
 Inv-loop offsets blob ids room index₀ len₀ index len = Passed (tokens offsets blob) room ids index len
@@ -19,31 +17,24 @@ Inv-loop offsets blob ids room index₀ len₀ index len = Passed (tokens offset
 abbrev μ-loop : tie.MeasureT-loop
 μ-loop offsets blob ids room index₀ len₀ index len = length ids - index
 
--- src/lib.rt:66:5
 loop-holds : tie.Need-loop-holds Inv-loop μ-loop
 loop-holds c = passed-none _ _ _
 
--- src/lib.rt:67:18
 mul-id : tie.Need-mul-id Inv-loop μ-loop
 mul-id c = search needs
 
--- src/lib.rt:67:18
 shared-slice-read-id : tie.Need-shared-slice-read-id Inv-loop μ-loop
 shared-slice-read-id c = search needs
 
--- src/lib.rt:68:51
 lookup-requires : tie.Need-lookup-requires Inv-loop μ-loop
 lookup-requires c κs = search needs
 
--- src/lib.rt:68:42
 enum-known-more : tie.Need-enum-known-more Inv-loop μ-loop
 enum-known-more c = search needs
 
--- src/lib.rt:69:13
 enum-told : tie.Need-enum-told Inv-loop μ-loop
 enum-told c = search needs
 
--- src/lib.rt:69:13
 returns : tie.Need-returns Inv-loop μ-loop
 returns c =
     let a = c .before .before .before .before .before .before .before .before .before .args in
@@ -52,11 +43,9 @@ returns c =
     ends-absent m (a .room) (a .ids .now) (l .index) (l .len) (l .inv) (c .before .before .before .before .loop-test .taken)
     (span-absent m (getD (a .ids .now) (l .index) 0) (sym (c .before .before .lookup .ensures) ∙ c .enum-told .given .1))
 
--- src/lib.rt:71:19
 sub-if1 : tie.Need-sub-if1 Inv-loop μ-loop
 sub-if1 c = c .before .before .before .before .before .before .loop .inv .fits
 
--- src/lib.rt:72:13
 returns-2 : tie.Need-returns-2 Inv-loop μ-loop
 returns-2 c =
     let a = c .before .before .before .before .before .before .before .before .before .before .before .args in
@@ -66,21 +55,18 @@ returns-2 c =
     let e = sym (c .before .before .before .before .lookup .ensures) ∙ c .before .before .more .given .1 in
     let size = span-size m i _ _ e in
     let some = has-span (a .offsets .now) (a .blob .now) i _ _ e .some in
-    ends-full m (a .room) (a .ids .now) (l .index) (l .len) (l .inv) (c .before .before .before .before .before .before .loop-test .taken) (omega arith) (omega arith)
+    ends-full m (a .room) (a .ids .now) (l .index) (l .len) (l .inv) (c .before .before .before .before .before .before .loop-test .taken)
+    (omega arith) (omega arith)
 
--- src/lib.rt:74:9
 add-len : tie.Need-add-len Inv-loop μ-loop
 add-len c = omega (arith, c .before .before .before .before .before .before .before .loop .inv .fits)
 
--- src/lib.rt:75:9
 add-index : tie.Need-add-index Inv-loop μ-loop
 add-index c = omega (arith, c .before .before .before .before .before .before .loop-test .taken)
 
--- src/lib.rt:66:5
 loop-less : tie.Need-loop-less Inv-loop μ-loop
 loop-less c = omega (arith, c .before .before .before .before .before .before .loop-test .taken)
 
--- src/lib.rt:66:5
 loop-again : tie.Need-loop-again Inv-loop μ-loop
 loop-again c =
     let a = c .before .before .before .before .before .before .before .before .before .before .before .args in
@@ -91,9 +77,9 @@ loop-again c =
     let size = span-size m i _ _ e in
     let some = has-span (a .offsets .now) (a .blob .now) i _ _ e .some in
     rw (← size)
-    (passed-more m (a .room) (a .ids .now) (l .index) (l .len) (l .inv) (c .before .before .before .before .before .before .loop-test .taken) (omega arith) (omega arith))
+    (passed-more m (a .room) (a .ids .now) (l .index) (l .len) (l .inv)
+    (c .before .before .before .before .before .before .loop-test .taken) (omega arith) (omega arith))
 
--- src/lib.rt:61:1
 returns-3 : tie.Need-returns-3 Inv-loop μ-loop
 returns-3 c =
     let a = c .before .before .before .before .before .args in

@@ -1,44 +1,34 @@
+-- `decoding::part_of` meets its contract. Assumes nothing.
 use borrow.Author.Needs.{needs}
 use Prim.Native.Nat.{_+_}
 use native.Mathlib.Omega.{arith}
 use Rattle.decoding.proofs.part_of.Statement.{statement}
 use Rattle.decoding.proofs.part_of.Tie as tie
-use Rattle.decoding.proofs.part_of.Reads as reads
-use Rattle.decoding.proofs.part_of.Lts as lts
 
--- src/lib.rt:100:17
 mul-start : tie.Need-mul-start
 mul-start c = search needs
 
--- src/lib.rt:100:17
 shared-slice-read-start : tie.Need-shared-slice-read-start
 shared-slice-read-start c = search needs
 
--- src/lib.rt:100:17
 cast-start : tie.Need-cast-start
 cast-start c = omega (arith, c .shared-slice-known .given (c .before .args .id))
 
--- src/lib.rt:101:23
 add-end : tie.Need-add-end
 add-end c = search needs
 
--- src/lib.rt:101:15
 mul-end : tie.Need-mul-end
 mul-end c = search needs
 
--- src/lib.rt:101:15
 shared-slice-read-end : tie.Need-shared-slice-read-end
 shared-slice-read-end c = search needs
 
--- src/lib.rt:101:15
 cast-end : tie.Need-cast-end
 cast-end c = omega (arith, c .shared-slice-known2 .given (c .before .before .args .id + 1))
 
--- src/lib.rt:104:14
 sub-t6 : tie.Need-sub-t6
 sub-t6 c = search needs
 
--- src/lib.rt:94:1
 returns : tie.Need-returns
 returns c = search needs
 

@@ -32,7 +32,7 @@ input s = now (s .args .src)
 
 -- number 1 did not refuse it
 enough : (c : tie.Else1 Inv-loop μ-loop) → tooShort (lent (c .before .before .before .before .before .before .before .before)) ≡ false
-enough c = sym (c .before .short-memory .ensures _ _) ∙ c .if1 .left
+enough c = sym (c .before .too-short .ensures _ _) ∙ c .if1 .left
 
 -- what was found: its place, id and length, and that it is the match
 abbrev start : tie.After-found Inv-loop μ-loop → tie.Start Inv-loop μ-loop
@@ -54,13 +54,13 @@ moved : (c : tie.After-found Inv-loop μ-loop) → (place c < place c + len c) �
 moved c =
     moves (lent (start c)) (input (start c)) (place c) (c .before .before .before .before .loop-test .taken) (id c) (len c) (matched c)
 
-short-memory-requires : tie.Need-short-memory-requires Inv-loop μ-loop
-short-memory-requires c κs = search needs
+too-short-requires : tie.Need-too-short-requires Inv-loop μ-loop
+too-short-requires c κs = search needs
 
 returns : tie.Need-returns Inv-loop μ-loop
 returns c =
     let s = c .before .before .before .before .before .before .before .before in
-    refuses (lent s) (input s) (now (s .args .out)) (sym (c .before .short-memory .ensures _ _) ∙ c .if1 .taken)
+    refuses (lent s) (input s) (now (s .args .out)) (sym (c .before .too-short .ensures _ _) ∙ c .if1 .taken)
 
 loop-holds : tie.Need-loop-holds Inv-loop μ-loop
 loop-holds c = stands-first _ _ _
@@ -140,7 +140,7 @@ encode-sequential-bytes-spec =
     (tie.spec
     Inv-loop
     μ-loop
-    short-memory-requires
+    too-short-requires
     returns
     loop-holds
     shared-slice-read-byte

@@ -34,7 +34,7 @@ cells s = sym (length-as (s .args .stream .held)) ∙ s .good .1 .1 .1 .1 .1 .0 
 
 -- number 1 did not refuse the memory
 long : (c : tie.Else1) → tooShort (lent (c .before .before .before .before .before .before .before .before)) ≡ false
-long c = sym (c .before .short-memory .ensures _ _) ∙ c .if1 .left
+long c = sym (c .before .too-short .ensures _ _) ∙ c .if1 .left
 
 -- no refusal of a call
 goes : (c : tie.After-enum-told) → none ≡ callRefusal (held-by (c .before .before .before .before .before .before .before .before .before .before .before)) (called (c .before .before .before .before .before .before .before .before .before .before .before))
@@ -47,11 +47,11 @@ through c = passes (held-by (c .before .before .before .before .before .before .
 many : (c : tie.After-enum-told) → length (take (c .before .before .before .before .before .before .before .before .before .before .before .args .stream .«held_len») (c .before .before .before .before .before .before .before .before .before .before .before .args .stream .held)) ≡ c .before .before .before .before .before .before .before .before .before .before .before .args .stream .«held_len»
 many c = length-take-le _ _ (omega (arith, cells (c .before .before .before .before .before .before .before .before .before .before .before), through c .few))
 
-short-memory-requires : tie.Need-short-memory-requires
-short-memory-requires c κs = search needs
+too-short-requires : tie.Need-too-short-requires
+too-short-requires c κs = search needs
 
 returns : tie.Need-returns
-returns c = gives-short (lent (c .before .before .before .before .before .before .before .before)) (held-by (c .before .before .before .before .before .before .before .before)) (called (c .before .before .before .before .before .before .before .before)) _ (now (c .before .before .before .before .before .before .before .before .args .out)) (sym (c .before .short-memory .ensures _ _) ∙ c .if1 .taken) refl refl
+returns c = gives-short (lent (c .before .before .before .before .before .before .before .before)) (held-by (c .before .before .before .before .before .before .before .before)) (called (c .before .before .before .before .before .before .before .before)) _ (now (c .before .before .before .before .before .before .before .before .args .out)) (sym (c .before .too-short .ensures _ _) ∙ c .if1 .taken) refl refl
 
 refused-by-requires : tie.Need-refused-by-requires
 refused-by-requires c κs = search needs
@@ -96,7 +96,7 @@ pub add-spec : {M : Type 1} → statement M
 add-spec =
     tie.close
     (tie.spec
-    short-memory-requires
+    too-short-requires
     returns
     refused-by-requires
     enum-known-refusal

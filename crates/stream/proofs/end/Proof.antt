@@ -44,7 +44,7 @@ fits s = omega (arith, s .good .1 .1 .1 .1 .1 .0 .1 .1 .0 .1)
 
 -- number 1 did not refuse the memory
 long : (c : tie.Else1) → tooShort (lent (c .before .before .before .before .before .before .before)) ≡ false
-long c = sym (c .before .short-memory .ensures _ _) ∙ c .if1 .left
+long c = sym (c .before .too-short .ensures _ _) ∙ c .if1 .left
 
 -- no refusal of a call
 goes : (c : tie.After-enum-told) → none ≡ callRefusal (held-by (c .before .before .before .before .before .before .before .before .before .before)) (add [] (now (c .before .before .before .before .before .before .before .before .before .before .args .out)))
@@ -81,11 +81,11 @@ never : (c : tie.After-encode-sequential-bytes) (q : Encoded) → c .encode-sequ
     → (encoding.answerOf q .number ≡ 0 → ⊥) → (encoding.answerOf q .number ≡ 22 → ⊥) → ⊥
 never c q e z t = says-other (lent (c .before .before .before .before .before .before .before .before .before .before .before .before .before .before .before)) (bytes (c .before .before .before .before .before .before .before .before .before .before .before .before .before .before .before)) (length (now (c .before .before .before .before .before .before .before .before .before .before .before .before .before .before .before .args .out))) (long (c .before .before .before .before .before .before .before .before)) (room (c .before .before .before .before .before)) (encoding.answerOf q) z t (told c q e)
 
-short-memory-requires : tie.Need-short-memory-requires
-short-memory-requires c κs = search needs
+too-short-requires : tie.Need-too-short-requires
+too-short-requires c κs = search needs
 
 returns : tie.Need-returns
-returns c = gives-short (lent (c .before .before .before .before .before .before .before)) (held-by (c .before .before .before .before .before .before .before)) (called (c .before .before .before .before .before .before .before)) _ (now (c .before .before .before .before .before .before .before .args .out)) (sym (c .before .short-memory .ensures _ _) ∙ c .if1 .taken) refl refl
+returns c = gives-short (lent (c .before .before .before .before .before .before .before)) (held-by (c .before .before .before .before .before .before .before)) (called (c .before .before .before .before .before .before .before)) _ (now (c .before .before .before .before .before .before .before .args .out)) (sym (c .before .too-short .ensures _ _) ∙ c .if1 .taken) refl refl
 
 refused-by-requires : tie.Need-refused-by-requires
 refused-by-requires c κs = search needs
@@ -176,7 +176,7 @@ pub end-spec : {M : Type 1} → statement M
 end-spec =
     tie.close
     (tie.spec
-    short-memory-requires
+    too-short-requires
     returns
     refused-by-requires
     enum-known-refusal

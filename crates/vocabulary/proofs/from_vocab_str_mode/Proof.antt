@@ -6,7 +6,7 @@ use lib.ListN.{length}
 use Rattle.spec.specs.Memory.{memory}
 use Rattle.spec.specs.Load.{tableRoom}
 use Rattle.laws.specs.Reads.{long-enough}
-use Rattle.vocabulary.specs.Settling.{loads-short, loads-bad, loads-text, same-short}
+use Rattle.vocabulary.specs.Settling.{loads-short, loads-bad, loads-text}
 use Rattle.vocabulary.proofs.from_vocab_str_mode.Statement.{statement}
 use Rattle.vocabulary.proofs.from_vocab_str_mode.Tie as tie
 
@@ -30,7 +30,7 @@ returns c =
     let a = c .before .before .before .before .before .before .before .before .before .before .before .before .before .before .args in
     loads-short (a .partial) (length (a .nodes .now) / 6) (tableRoom (length (a .table .now)) (length (a .used .now)) (length (a
     .used-bases .now))) (memory (a .single .now) (a .offsets .now) (a .blob .now) (a .roots .now) (a .table .now)) (a .text .now)
-    (same-short _ _ (a .blob .now) _ (a .table .now) ∙ sym (c .before .before .too-short .ensures) ∙ c .before .if1 .taken) _ (c .refused
+    (sym (c .before .before .too-short .ensures (a .blob .now) (a .table .now)) ∙ c .before .if1 .taken) _ (c .refused
     .ensures)
 
 first-bad-requires : tie.Need-first-bad-requires
@@ -49,8 +49,8 @@ load-text-requires : tie.Need-load-text-requires
 load-text-requires c κs =
     let a = c .before .before .before .before .before .before .before .before .before .before .before .before .before .before .before
     .before .before .before .before .before .before .before .before .before .args in
-    long-enough _ (same-short _ _ (a .blob .now) _ (a .table .now) ∙ sym (c .before .before .before .before .before .before .before
-    .before .before .before .before .before .too-short .ensures) ∙ c .before .before .before .before .before .before .before .before
+    long-enough _ (sym (c .before .before .before .before .before .before .before
+    .before .before .before .before .before .too-short .ensures (a .blob .now) (a .table .now)) ∙ c .before .before .before .before .before .before .before .before
     .before .before .before .if1 .left)
 
 same-length-4 : tie.Need-same-length-4
@@ -68,7 +68,7 @@ returns-2 c =
     .before .before .before .args in
     loads-bad (a .partial) (length (a .nodes .now) / 6) (tableRoom (length (a .table .now)) (length (a .used .now)) (length (a
     .used-bases .now))) (memory (a .single .now) (a .offsets .now) (a .blob .now) (a .roots .now) (a .table .now)) (a .text .now)
-    (same-short _ _ (a .blob .now) _ (a .table .now) ∙ sym (c .before .before .before .before .before .before .too-short .ensures) ∙ c
+    (sym (c .before .before .before .before .before .before .too-short .ensures (a .blob .now) (a .table .now)) ∙ c
     .before .before .before .before .before .if1 .left) _ (c .before .before .before .before .first-bad .ensures) _ (c .before
     .before .found .given .1) _ (c .refused2 .ensures)
 
@@ -111,9 +111,9 @@ returns-3 c =
     .before .before .before .before .before .before .before .before .before .args in
     loads-text (a .partial) (length (a .nodes .now) / 6) (tableRoom (length (a .table .now)) (length (a .used .now)) (length (a
     .used-bases .now))) (memory (a .single .now) (a .offsets .now) (a .blob .now) (a .roots .now) (a .table .now)) (a .text .now)
-    (same-short _ _ (a .blob .now) _ (a .table .now) ∙ sym (c .before .before .before .before .before .before .before .before .before
+    (sym (c .before .before .before .before .before .before .before .before .before
     .before .before .before .before .before .before .before .before .before .before .before .before .before .before .before .before
-    .before .before .before .too-short .ensures) ∙ c .before .before .before .before .before .before .before .before .before .before
+    .before .before .before .too-short .ensures (a .blob .now) (a .table .now)) ∙ c .before .before .before .before .before .before .before .before .before .before
     .before .before .before .before .before .before .before .before .before .before .before .before .before .before .before .before
     .before .if1 .left) _ (c .before .before .before .before .before .before .before .before .before .before .before .before .before
     .before .before .before .before .before .before .before .before .before .before .before .before .before .first-bad .ensures) (c

@@ -1,139 +1,109 @@
+-- `decoding::copy::copy8` meets its contract: eight stores are a paste. Assumes nothing.
 use borrow.Author.Needs.{needs}
 use native.Mathlib.Omega.{arith}
 use lib.ListN.{length-set}
 use Rattle.decoding.proofs.Paste.{eight-stores}
 use Rattle.decoding.proofs.copy.copy8.Statement.{statement}
 use Rattle.decoding.proofs.copy.copy8.Tie as tie
-use Rattle.decoding.proofs.copy.copy8.Reads as reads
-use Rattle.decoding.proofs.copy.copy8.Lts as lts
 
--- src/copy.rt:27:13
 shared-slice-read-a : tie.Need-shared-slice-read-a
 shared-slice-read-a c = search needs
 
--- src/copy.rt:28:17
 add-b : tie.Need-add-b
 add-b c = search needs
 
--- src/copy.rt:28:13
 shared-slice-read-b : tie.Need-shared-slice-read-b
 shared-slice-read-b c = search needs
 
--- src/copy.rt:29:17
 add-c : tie.Need-add-c
 add-c c = search needs
 
--- src/copy.rt:29:13
 shared-slice-read-c : tie.Need-shared-slice-read-c
 shared-slice-read-c c = search needs
 
--- src/copy.rt:30:17
 add-d : tie.Need-add-d
 add-d c = search needs
 
--- src/copy.rt:30:13
 shared-slice-read-d : tie.Need-shared-slice-read-d
 shared-slice-read-d c = search needs
 
--- src/copy.rt:31:17
 add-e : tie.Need-add-e
 add-e c = search needs
 
--- src/copy.rt:31:13
 shared-slice-read-e : tie.Need-shared-slice-read-e
 shared-slice-read-e c = search needs
 
--- src/copy.rt:32:17
 add-f : tie.Need-add-f
 add-f c = search needs
 
--- src/copy.rt:32:13
 shared-slice-read-f : tie.Need-shared-slice-read-f
 shared-slice-read-f c = search needs
 
--- src/copy.rt:33:17
 add-g : tie.Need-add-g
 add-g c = search needs
 
--- src/copy.rt:33:13
 shared-slice-read-g : tie.Need-shared-slice-read-g
 shared-slice-read-g c = search needs
 
--- src/copy.rt:34:17
 add-h : tie.Need-add-h
 add-h c = search needs
 
--- src/copy.rt:34:13
 shared-slice-read-h : tie.Need-shared-slice-read-h
 shared-slice-read-h c = search needs
 
--- src/copy.rt:35:5
 slice-write-dst : tie.Need-slice-write-dst
 slice-write-dst c = search needs
 
--- src/copy.rt:36:9
 add-dst : tie.Need-add-dst
 add-dst c = search needs
 
--- src/copy.rt:36:5
 slice-write-dst-2 : tie.Need-slice-write-dst-2
 slice-write-dst-2 c = simp length-set (omega arith)
 
--- src/copy.rt:37:9
 add-dst-2 : tie.Need-add-dst-2
 add-dst-2 c = search needs
 
--- src/copy.rt:37:5
 slice-write-dst-3 : tie.Need-slice-write-dst-3
 slice-write-dst-3 c = simp length-set (omega arith)
 
--- src/copy.rt:38:9
 add-dst-3 : tie.Need-add-dst-3
 add-dst-3 c = search needs
 
--- src/copy.rt:38:5
 slice-write-dst-4 : tie.Need-slice-write-dst-4
 slice-write-dst-4 c = simp length-set (omega arith)
 
--- src/copy.rt:39:9
 add-dst-4 : tie.Need-add-dst-4
 add-dst-4 c = search needs
 
--- src/copy.rt:39:5
 slice-write-dst-5 : tie.Need-slice-write-dst-5
 slice-write-dst-5 c = simp length-set (omega arith)
 
--- src/copy.rt:40:9
 add-dst-5 : tie.Need-add-dst-5
 add-dst-5 c = search needs
 
--- src/copy.rt:40:5
 slice-write-dst-6 : tie.Need-slice-write-dst-6
 slice-write-dst-6 c = simp length-set (omega arith)
 
--- src/copy.rt:41:9
 add-dst-6 : tie.Need-add-dst-6
 add-dst-6 c = search needs
 
--- src/copy.rt:41:5
 slice-write-dst-7 : tie.Need-slice-write-dst-7
 slice-write-dst-7 c = simp length-set (omega arith)
 
--- src/copy.rt:42:9
 add-dst-7 : tie.Need-add-dst-7
 add-dst-7 c = search needs
 
--- src/copy.rt:42:5
 slice-write-dst-8 : tie.Need-slice-write-dst-8
 slice-write-dst-8 c = simp length-set (omega arith)
 
--- src/copy.rt:23:1
 same-length : tie.Need-same-length
 same-length c = simp length-set
 
--- src/copy.rt:23:1
 returns : tie.Need-returns
-returns c = eight-stores (c .before .before .before .before .before .before .before .before .args .dst .now) (c .before .before .before .before .before .before .before .before .args .at) (c .before .before .before .before .before .before .before .before .args .src .now) (c .before .before .before .before .before .before .before .before .args .start) (omega arith) (omega arith)
+returns c = eight-stores (c .before .before .before .before .before .before .before .before .args .dst .now)
+    (c .before .before .before .before .before .before .before .before .args .at)
+    (c .before .before .before .before .before .before .before .before .args .src .now)
+    (c .before .before .before .before .before .before .before .before .args .start) (omega arith) (omega arith)
 
 pub copy8-spec : {M : Type 1} → statement M
 copy8-spec =

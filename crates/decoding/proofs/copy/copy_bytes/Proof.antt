@@ -1,15 +1,14 @@
-use mathlib.Core.Path.{_≡_, refl, ap, sym, _∙_}
-use Prim.Native.Nat.{ℕ, _+_, _-_, _≤_, _<_, zero-le}
+-- `decoding::copy::copy_bytes` meets its contract. The loop's invariant: the bytes passed are pasted. Assumes nothing.
+use mathlib.Core.Path.{_≡_, refl, ap, _∙_}
+use Prim.Native.Nat.{ℕ, _+_, _-_, _≤_, zero-le}
 use native.Mathlib.Omega.{arith}
 use lib.ListN.{length, drop, getD, length-set}
-use lib.Seq.{paste, paste-zero, paste-suc, length-paste}
+use lib.Seq.{paste, paste-zero}
 use mathlib.Core.List.{List}
 use lib.ListN.{set}
 use Rattle.decoding.proofs.Paste.{one-store}
 use Rattle.decoding.proofs.copy.copy_bytes.Statement.{statement}
 use Rattle.decoding.proofs.copy.copy_bytes.Tie as tie
-use Rattle.decoding.proofs.copy.copy_bytes.Reads as reads
-use Rattle.decoding.proofs.copy.copy_bytes.Lts as lts
 
 abbrev Inv-loop : tie.InvT-loop
 Inv-loop src start len dst₀ at k₀ dst k = (k ≤ len) × (length dst ≡ length dst₀) × (dst ≡ paste dst₀ at (drop start src) k)
@@ -17,35 +16,27 @@ Inv-loop src start len dst₀ at k₀ dst k = (k ≤ len) × (length dst ≡ len
 abbrev μ-loop : tie.MeasureT-loop
 μ-loop src start len dst₀ at k₀ dst k = len - k
 
--- src/copy.rt:16:5
 loop-holds : tie.Need-loop-holds Inv-loop μ-loop
 loop-holds c = (zero-le, refl, paste-zero (c .args .dst .now) (c .args .at) (drop (c .args .start) (c .args .src .now)))
 
--- src/copy.rt:17:27
 add-dst : tie.Need-add-dst Inv-loop μ-loop
 add-dst c = omega arith
 
--- src/copy.rt:17:23
 shared-slice-read-dst : tie.Need-shared-slice-read-dst Inv-loop μ-loop
 shared-slice-read-dst c = omega arith
 
--- src/copy.rt:17:13
 add-dst-2 : tie.Need-add-dst-2 Inv-loop μ-loop
 add-dst-2 c = omega arith
 
--- src/copy.rt:17:9
 slice-write-dst : tie.Need-slice-write-dst Inv-loop μ-loop
 slice-write-dst c = omega arith
 
--- src/copy.rt:18:9
 add-k : tie.Need-add-k Inv-loop μ-loop
 add-k c = omega arith
 
--- src/copy.rt:16:5
 loop-less : tie.Need-loop-less Inv-loop μ-loop
 loop-less c = omega arith
 
--- src/copy.rt:16:5
 loop-again : tie.Need-loop-again Inv-loop μ-loop
 loop-again c =
     let a = c .before .before .before .args in
@@ -56,11 +47,9 @@ loop-again c =
           ∙ one-store (a .dst .now) (a .at) (a .src .now) (a .start) (l .k) (omega arith) (omega arith),
     )
 
--- src/copy.rt:11:1
 same-length : tie.Need-same-length Inv-loop μ-loop
 same-length c = c .before .loop .inv .1
 
--- src/copy.rt:11:1
 returns : tie.Need-returns Inv-loop μ-loop
 returns c =
     let a = c .before .before .args in

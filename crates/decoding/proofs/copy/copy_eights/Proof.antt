@@ -1,15 +1,13 @@
+-- `decoding::copy::copy_eights` meets its contract. The loop's invariant: k bytes are pasted, at most seven too many. Assumes nothing.
 use mathlib.Core.Path.{_≡_, refl, ap, _∙_}
 use mathlib.Core.List.{List}
-use Prim.Native.Nat.{ℕ, _+_, _-_, _≤_, _<_}
+use Prim.Native.Nat.{ℕ, _+_, _-_, _<_}
 use native.Mathlib.Omega.{arith}
 use lib.ListN.{length, drop}
 use lib.Seq.{paste, paste-zero}
 use Rattle.decoding.proofs.Paste.{paste-next, placed}
 use Rattle.decoding.proofs.copy.copy_eights.Statement.{statement}
 use Rattle.decoding.proofs.copy.copy_eights.Tie as tie
-use Rattle.decoding.proofs.copy.copy_eights.Reads as reads
-use Rattle.decoding.proofs.copy.copy_eights.Lts as lts
-use Rattle.decoding.proofs.copy.copy8.Reads as copy8-reads
 
 abbrev Inv-loop : tie.InvT-loop
 Inv-loop src start len dst₀ at k₀ dst k = (k < len + 8) × (length dst ≡ length dst₀) × (dst ≡ paste dst₀ at (drop start src) k)
@@ -17,31 +15,29 @@ Inv-loop src start len dst₀ at k₀ dst k = (k < len + 8) × (length dst ≡ l
 abbrev μ-loop : tie.MeasureT-loop
 μ-loop src start len dst₀ at k₀ dst k = len - k
 
--- src/copy.rt:51:5
 loop-holds : tie.Need-loop-holds Inv-loop μ-loop
-loop-holds c = (omega arith, refl, paste-zero (c .before .before .args .dst .now) (c .before .before .args .at) (drop (c .before .before .args .start) (c .before .before .args .src .now)))
+loop-holds c = (
+  omega arith,
+  refl,
+  paste-zero (c .before .before .args .dst .now) (c .before .before .args .at)
+      (drop (c .before .before .args .start) (c .before .before .args .src .now)),
+)
 
--- src/copy.rt:52:20
 add-copy8 : tie.Need-add-copy8 Inv-loop μ-loop
 add-copy8 c = omega arith
 
--- src/copy.rt:52:36
 add-copy8-2 : tie.Need-add-copy8-2 Inv-loop μ-loop
 add-copy8-2 c = omega arith
 
--- src/copy.rt:52:9
 copy8-requires : tie.Need-copy8-requires Inv-loop μ-loop
 copy8-requires c κs = omega arith
 
--- src/copy.rt:53:9
 add-k : tie.Need-add-k Inv-loop μ-loop
 add-k c = omega arith
 
--- src/copy.rt:51:5
 loop-less : tie.Need-loop-less Inv-loop μ-loop
 loop-less c = omega arith
 
--- src/copy.rt:51:5
 loop-again : tie.Need-loop-again Inv-loop μ-loop
 loop-again c =
     let a = c .before .before .before .before .before .before .before .before .args in
@@ -53,11 +49,9 @@ loop-again c =
           ∙ paste-next (a .dst .now) (a .at) (a .src .now) (a .start) (l .k) 8 (omega arith) (omega arith),
     )
 
--- src/copy.rt:46:1
 same-length : tie.Need-same-length Inv-loop μ-loop
 same-length c = c .before .loop .inv .1
 
--- src/copy.rt:46:1
 returns : tie.Need-returns Inv-loop μ-loop
 returns c =
     let a = c .before .before .before .before .args in

@@ -1,4 +1,5 @@
-use mathlib.Core.Path.{_≡_, sym, _∙_}
+-- `decoding::lossy::first_absent` meets its contract. The loop's invariant: the ids passed all have bytes. Assumes nothing.
+use mathlib.Core.Path.{sym, _∙_}
 use Prim.Native.Nat.{ℕ, _-_, _≤_, _<_, zero-le}
 use native.Mathlib.Omega.{arith}
 use borrow.Author.Count.{below-none, below-more}
@@ -9,40 +10,32 @@ use Rattle.decoding.specs.Span.{has-span, span-size, span-absent}
 use Rattle.decoding.specs.Measured.{tokens}
 use Rattle.decoding.proofs.lossy.first_absent.Statement.{statement}
 use Rattle.decoding.proofs.lossy.first_absent.Tie as tie
-use Rattle.decoding.proofs.lossy.first_absent.Reads as reads
-use Rattle.decoding.proofs.lossy.first_absent.Lts as lts
-use Rattle.decoding.proofs.lookup.Reads as lookup-reads
 
 abbrev Inv-loop : tie.InvT-loop
-Inv-loop offsets blob ids index₀ index = (index ≤ length ids) × ((j : ℕ) → j < index → 1 ≤ length (lookup (tokens offsets blob) (getD ids j 0)))
+Inv-loop offsets blob ids index₀ index = (index ≤ length ids) × ((j : ℕ) → j < index → 1 ≤ length
+    (lookup (tokens offsets blob) (getD ids j 0)))
 
 abbrev μ-loop : tie.MeasureT-loop
 μ-loop offsets blob ids index₀ index = length ids - index
 
--- src/lossy.rt:22:5
 loop-holds : tie.Need-loop-holds Inv-loop μ-loop
 loop-holds c = (zero-le, below-none _)
 
--- src/lossy.rt:23:77
 mul-lookup : tie.Need-mul-lookup Inv-loop μ-loop
 mul-lookup c = search needs
 
--- src/lossy.rt:23:77
 shared-slice-read-lookup : tie.Need-shared-slice-read-lookup Inv-loop μ-loop
 shared-slice-read-lookup c = search needs
 
--- src/lossy.rt:23:48
 lookup-requires : tie.Need-lookup-requires Inv-loop μ-loop
 lookup-requires c κs = search needs
 
 enum-told : tie.Need-enum-told Inv-loop μ-loop
 enum-told c = search needs
 
--- src/lossy.rt:24:13
 enum-told-2 : tie.Need-enum-told-2 Inv-loop μ-loop
 enum-told-2 c = search needs
 
--- src/lossy.rt:24:13
 returns : tie.Need-returns Inv-loop μ-loop
 returns c =
     let a = c .before .before .before .before .before .before .before .before .before .args in
@@ -54,15 +47,12 @@ returns c =
       absent = λ _. span-absent m (getD (a .ids .now) (l .index) 0) (sym (c .before .before .lookup .ensures) ∙ c .enum-told2 .given .1);
     }
 
--- src/lossy.rt:26:9
 add-index : tie.Need-add-index Inv-loop μ-loop
 add-index c = omega arith
 
--- src/lossy.rt:22:5
 loop-less : tie.Need-loop-less Inv-loop μ-loop
 loop-less c = omega arith
 
--- src/lossy.rt:22:5
 loop-again : tie.Need-loop-again Inv-loop μ-loop
 loop-again c =
     let a = c .before .before .before .before .before .before .before .before .before .args in
@@ -74,7 +64,6 @@ loop-again c =
     let some = has-span (a .offsets .now) (a .blob .now) i _ _ e .some in
     (omega arith, below-more _ _ (l .inv .1) (omega arith))
 
--- src/lossy.rt:18:1
 returns-2 : tie.Need-returns-2 Inv-loop μ-loop
 returns-2 c =
     let l = c .before .loop in

@@ -1,15 +1,13 @@
-use mathlib.Core.Path.{_≡_, sym, _∙_}
-use Prim.Native.Nat.{ℕ, _+_, _-_, _≤_, _<_, zero-le}
+-- `decoding::lossy::size_token` meets its contract. The loop's invariant: the reader has taken the bytes passed, and its text so far fits.
+-- Assumes nothing.
+use Prim.Native.Nat.{_+_, _-_, _≤_, zero-le}
 use native.Mathlib.Omega.{arith}
 use borrow.Author.Needs.{needs}
-use lib.ListN.{length, take, drop, getD}
+use lib.ListN.{take, drop, getD}
 use Rattle.utf8.specs.Means.{heldOf}
 use Rattle.decoding.proofs.Reading.{Along, along-none, along-more, along-room, along-all, part-next, part-done}
 use Rattle.decoding.proofs.lossy.size_token.Statement.{statement}
 use Rattle.decoding.proofs.lossy.size_token.Tie as tie
-use Rattle.decoding.proofs.lossy.size_token.Reads as reads
-use Rattle.decoding.proofs.lossy.size_token.Lts as lts
-use Rattle.utf8.proofs.push.Reads as push-reads
 
 abbrev Inv-loop : tie.InvT-loop
 Inv-loop blob start len room held₀ n₀ k₀ held n k =
@@ -19,27 +17,21 @@ Inv-loop blob start len room held₀ n₀ k₀ held n k =
 abbrev μ-loop : tie.MeasureT-loop
 μ-loop blob start len room held₀ n₀ k₀ held n k = len - k
 
--- src/lossy.rt:51:5
 loop-holds : tie.Need-loop-holds Inv-loop μ-loop
 loop-holds c = (omega arith, zero-le, along-none _ _ _)
 
--- src/lossy.rt:52:44
 add-push : tie.Need-add-push Inv-loop μ-loop
 add-push c = omega arith
 
--- src/lossy.rt:52:39
 shared-slice-read-push : tie.Need-shared-slice-read-push Inv-loop μ-loop
 shared-slice-read-push c = omega arith
 
--- src/lossy.rt:52:13
 push-requires : tie.Need-push-requires Inv-loop μ-loop
 push-requires c κs = search needs
 
--- src/lossy.rt:53:25
 sub-if1 : tie.Need-sub-if1 Inv-loop μ-loop
 sub-if1 c = omega arith
 
--- src/lossy.rt:54:13
 returns : tie.Need-returns Inv-loop μ-loop
 returns c =
     let a = c .before .before .before .before .before .before .before .before .args in
@@ -51,19 +43,15 @@ returns c =
     let q = c .before .before .push .ensures in
     omega (arith, along-room (heldOf (a .from .held)) t (a .from .len) (l .held) (l .n) b _ _ e (l .inv .2) r q)
 
--- src/lossy.rt:56:9
 add-n : tie.Need-add-n Inv-loop μ-loop
 add-n c = omega arith
 
--- src/lossy.rt:58:9
 add-k : tie.Need-add-k Inv-loop μ-loop
 add-k c = omega arith
 
--- src/lossy.rt:51:5
 loop-less : tie.Need-loop-less Inv-loop μ-loop
 loop-less c = omega arith
 
--- src/lossy.rt:51:5
 loop-again : tie.Need-loop-again Inv-loop μ-loop
 loop-again c =
     let a = c .before .before .before .before .before .before .before .before .before .before .args in
@@ -75,7 +63,6 @@ loop-again c =
     let q = c .before .before .before .before .push .ensures in
     (omega arith, omega arith, along-more (heldOf (a .from .held)) t (a .from .len) (l .held) (l .n) b _ _ e (l .inv .2) r q)
 
--- src/lossy.rt:44:1
 returns-2 : tie.Need-returns-2 Inv-loop μ-loop
 returns-2 c =
     let a = c .before .before .before .before .args in

@@ -1,3 +1,5 @@
+-- `decoding::lossy::write_text` meets its contract. The loop's invariant: the text of the ids passed stands in the output, and there is
+-- room for the rest. Assumes nothing.
 use mathlib.Core.Path.{sym, _∙_}
 use Prim.Native.Nat.{_-_, _≤_, zero-le}
 use native.Mathlib.Omega.{arith}
@@ -9,94 +11,85 @@ use Rattle.decoding.specs.Measured.{tokens}
 use Rattle.decoding.proofs.Reading.{TextLeft, left-all, left-room, left-more, last-room, left-none, finish-size}
 use Rattle.decoding.proofs.lossy.write_text.Statement.{statement}
 use Rattle.decoding.proofs.lossy.write_text.Tie as tie
-use Rattle.decoding.proofs.lossy.write_text.Reads as reads
-use Rattle.decoding.proofs.lossy.write_text.Lts as lts
-use Rattle.decoding.proofs.copy.copy_bytes.Reads as copy-bytes-reads
-use Rattle.decoding.proofs.lossy.write_token.Reads as write-token-reads
-use Rattle.decoding.proofs.part_of.Reads as part-of-reads
-use Rattle.utf8.proofs.finish.Reads as finish-reads
-use Rattle.utf8.proofs.fresh.Reads as fresh-reads
 
 abbrev Inv-loop : tie.InvT-loop
-Inv-loop offsets blob ids out₀ held₀ n₀ index₀ out held n index = (index ≤ length ids) × TextLeft (tokens offsets blob) ids out₀ index held n out
+Inv-loop offsets blob ids out₀ held₀ n₀ index₀ out held n index = (index ≤ length ids) × TextLeft (tokens offsets blob) ids out₀ index
+    held n out
 
 abbrev μ-loop : tie.MeasureT-loop
 μ-loop offsets blob ids out₀ held₀ n₀ index₀ out held n index = length ids - index
 
--- src/lossy.rt:122:9
 fresh-requires : tie.Need-fresh-requires Inv-loop μ-loop
 fresh-requires c κs = search needs
 
--- src/lossy.rt:125:5
 loop-holds : tie.Need-loop-holds Inv-loop μ-loop
 loop-holds c =
-    let a = c .before .before .before .before .before .args in
-    (zero-le, left-all (tokens (a .offsets .now) (a .blob .now)) (a .ids .now) (a .out .now) (c .fresh .result) (c .fresh .ensures) (c .before .before .before .before .before .pre .1))
+    let a = c .before .before .before .before .before .args in (
+      zero-le,
+      left-all (tokens (a .offsets .now) (a .blob .now)) (a .ids .now) (a .out .now) (c .fresh .result) (c .fresh .ensures)
+          (c .before .before .before .before .before .pre .1),
+    )
 
--- src/lossy.rt:126:44
 mul-part-of : tie.Need-mul-part-of Inv-loop μ-loop
 mul-part-of c = omega arith
 
--- src/lossy.rt:126:44
 shared-slice-read-part-of : tie.Need-shared-slice-read-part-of Inv-loop μ-loop
 shared-slice-read-part-of c = omega arith
 
--- src/lossy.rt:126:13
 part-of-requires : tie.Need-part-of-requires Inv-loop μ-loop
 part-of-requires c κs =
     let a = c .before .before .before .before .before .before .before .before .args in
     let l = c .before .before .loop in
     let m = tokens (a .offsets .now) (a .blob .now) in
     let i = getD (a .ids .now) (l .index) 0 in
-    let t = present m i (c .before .before .before .before .before .before .before .before .pre .0 (l .index) (c .before .loop-test .taken)) in
+    let t = present m i (c .before .before .before .before .before .before .before .before .pre .0 (l .index)
+    (c .before .loop-test .taken)) in
     (t .paired, t .ordered)
 
--- src/lossy.rt:127:13
 write-token-requires : tie.Need-write-token-requires Inv-loop μ-loop
 write-token-requires c κs =
     let a = c .before .before .before .before .before .before .before .before .before .before .args in
     let l = c .before .before .before .before .loop in
     let m = tokens (a .offsets .now) (a .blob .now) in
     let i = getD (a .ids .now) (l .index) 0 in
-    let t = present m i (c .before .before .before .before .before .before .before .before .before .before .pre .0 (l .index) (c .before .before .before .loop-test .taken)) in
+    let t = present m i (c .before .before .before .before .before .before .before .before .before .before .pre .0 (l .index)
+    (c .before .before .before .loop-test .taken)) in
     let p = c .before .part-of .ensures in
     let bytes = rw (← p .1, ← p .0) at (t .bytes) in (
       omega (arith, t .inside, t .ordered, p .0, p .1),
-      rw (← bytes) (left-room m (a .ids .now) (a .out .now) (l .index) (l .held) (l .n) (l .out) (l .inv .1) (c .before .before .before .loop-test .taken)),
+      rw (← bytes) (left-room m (a .ids .now) (a .out .now) (l .index) (l .held) (l .n) (l .out) (l .inv .1)
+          (c .before .before .before .loop-test .taken)),
     )
 
--- src/lossy.rt:130:9
 add-index : tie.Need-add-index Inv-loop μ-loop
 add-index c = omega arith
 
--- src/lossy.rt:125:5
 loop-less : tie.Need-loop-less Inv-loop μ-loop
 loop-less c = omega arith
 
--- src/lossy.rt:125:5
 loop-again : tie.Need-loop-again Inv-loop μ-loop
 loop-again c =
     let a = c .before .before .before .before .before .before .before .before .before .before .before .before .before .before .args in
     let l = c .before .before .before .before .before .before .before .before .loop in
     let m = tokens (a .offsets .now) (a .blob .now) in
     let i = getD (a .ids .now) (l .index) 0 in
-    let t = present m i (c .before .before .before .before .before .before .before .before .before .before .before .before .before .before .pre .0 (l .index) (c .before .before .before .before .before .before .before .loop-test .taken)) in
+    let t = present m i (c .before .before .before .before .before .before .before .before .before .before .before .before
+    .before .before .pre .0 (l .index) (c .before .before .before .before .before .before .before .loop-test .taken)) in
     let p = c .before .before .before .before .before .part-of .ensures in
     let bytes = rw (← p .1, ← p .0) at (t .bytes) in
     let g = rw (← bytes) at (c .before .before .before .write-token .ensures) in (
       omega arith,
-      left-more m (a .ids .now) (a .out .now) (l .index) (l .held) (l .n) (l .out) (l .inv .1) _ _ (c .before .before .before .before .before .before .before .loop-test .taken) (g .0) (g .1),
+      left-more m (a .ids .now) (a .out .now) (l .index) (l .held) (l .n) (l .out) (l .inv .1) _ _
+          (c .before .before .before .before .before .before .before .loop-test .taken) (g .0) (g .1),
     )
 
--- src/lossy.rt:132:9
 finish-requires : tie.Need-finish-requires Inv-loop μ-loop
 finish-requires c κs = search needs
 
--- src/lossy.rt:134:22
 slice-aggregate-copy-bytes : tie.Need-slice-aggregate-copy-bytes Inv-loop μ-loop
-slice-aggregate-copy-bytes c = sym (finish-size (heldOf (c .before .before .before .before .loop .held)) (c .before .before .finish .result) (c .before .before .finish .ensures) .0)
+slice-aggregate-copy-bytes c = sym (finish-size (heldOf (c .before .before .before .before .loop .held))
+    (c .before .before .finish .result) (c .before .before .finish .ensures) .0)
 
--- src/lossy.rt:134:5
 copy-bytes-requires : tie.Need-copy-bytes-requires Inv-loop μ-loop
 copy-bytes-requires c κs =
     let a = c .before .before .before .before .before .before .before .before .before .before .before .args in
@@ -104,14 +97,16 @@ copy-bytes-requires c κs =
     let m = tokens (a .offsets .now) (a .blob .now) in
     let r = c .before .before .before .finish .result in
     let q = c .before .before .before .finish .ensures in
-    let s = finish-size (heldOf (l .held)) r q in
-    (omega (arith, s .0, s .1), last-room m (a .ids .now) (a .out .now) (l .index) (l .held) (l .n) (l .out) (l .inv .1) r (c .before .before .before .before .loop-test .left) q)
+    let s = finish-size (heldOf (l .held)) r q in (
+      omega (arith, s .0, s .1),
+      last-room m (a .ids .now) (a .out .now) (l .index) (l .held) (l .n) (l .out) (l .inv .1) r
+          (c .before .before .before .before .loop-test .left) q,
+    )
 
--- src/lossy.rt:116:1
 same-length : tie.Need-same-length Inv-loop μ-loop
-same-length c = c .before .before .copy-bytes .kept .1 .1 .1 .0 ∙ c .before .before .before .before .before .before .before .before .loop .inv .1 .same
+same-length c = c .before .before .copy-bytes .kept .1 .1 .1 .0 ∙
+    c .before .before .before .before .before .before .before .before .loop .inv .1 .same
 
--- src/lossy.rt:116:1
 returns : tie.Need-returns Inv-loop μ-loop
 returns c =
     let a = c .before .before .before .before .before .before .before .before .before .before .before .before .before .before .args in
@@ -119,7 +114,8 @@ returns c =
     let m = tokens (a .offsets .now) (a .blob .now) in
     let r = c .before .before .before .before .before .before .finish .result in
     let q = c .before .before .before .before .before .before .finish .ensures in
-    left-none m (a .ids .now) (a .out .now) (l .index) (l .held) (l .n) (l .out) (l .inv .1) r (c .before .before .before .before .before .before .before .loop-test .left) q _ (c .before .before .copy-bytes .ensures)
+    left-none m (a .ids .now) (a .out .now) (l .index) (l .held) (l .n) (l .out) (l .inv .1) r
+    (c .before .before .before .before .before .before .before .loop-test .left) q _ (c .before .before .copy-bytes .ensures)
 
 pub write-text-spec : {M : Type 1} → statement M
 write-text-spec =

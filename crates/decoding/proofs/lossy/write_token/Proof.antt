@@ -1,11 +1,11 @@
-use mathlib.Core.Path.{_≡_, refl, ap, sym, _∙_}
-use Prim.Native.Nat.{ℕ, _+_, _-_, _≤_, _<_, zero-le}
+-- `decoding::lossy::write_token` meets its contract. The loop's invariant: the text of the bytes passed stands in the output. Assumes
+-- nothing.
+use mathlib.Core.Path.{ap, sym}
+use Prim.Native.Nat.{_+_, _-_, _≤_, zero-le}
 use native.Mathlib.Omega.{arith}
 use borrow.Author.Needs.{needs}
-use lib.ListN.{length, take, drop, getD}
-use Rattle.utf8.specs.Reader.{run}
+use lib.ListN.{take, drop, getD}
 use Rattle.utf8.specs.Means.{heldOf}
-use Rattle.decoding.specs.Lossy.{put}
 use Rattle.utf8.specs.Means.{pushed-room}
 use Rattle.utf8.specs.declared.Pushed.{Pushed}
 use Rattle.decoding.proofs.Reading.{
@@ -21,10 +21,6 @@ use Rattle.decoding.proofs.Reading.{
 }
 use Rattle.decoding.proofs.lossy.write_token.Statement.{statement}
 use Rattle.decoding.proofs.lossy.write_token.Tie as tie
-use Rattle.decoding.proofs.lossy.write_token.Reads as reads
-use Rattle.decoding.proofs.lossy.write_token.Lts as lts
-use Rattle.decoding.proofs.copy.copy_bytes.Reads as copy-bytes-reads
-use Rattle.utf8.proofs.push.Reads as push-reads
 
 abbrev Inv-loop : tie.InvT-loop
 Inv-loop blob start len out₀ held₀ n₀ k₀ out held n k =
@@ -34,27 +30,22 @@ Inv-loop blob start len out₀ held₀ n₀ k₀ out held n k =
 abbrev μ-loop : tie.MeasureT-loop
 μ-loop blob start len out₀ held₀ n₀ k₀ out held n k = len - k
 
--- src/lossy.rt:104:5
 loop-holds : tie.Need-loop-holds Inv-loop μ-loop
 loop-holds c = (zero-le, writing-none _ _ _ _ (omega arith))
 
--- src/lossy.rt:105:44
 add-push : tie.Need-add-push Inv-loop μ-loop
 add-push c = omega arith
 
--- src/lossy.rt:105:39
 shared-slice-read-push : tie.Need-shared-slice-read-push Inv-loop μ-loop
 shared-slice-read-push c = omega arith
 
--- src/lossy.rt:105:13
 push-requires : tie.Need-push-requires Inv-loop μ-loop
 push-requires c κs = search needs
 
--- src/lossy.rt:107:26
 slice-aggregate-copy-bytes : tie.Need-slice-aggregate-copy-bytes Inv-loop μ-loop
-slice-aggregate-copy-bytes c = sym (pushed-size (c .before .before .before .before .before .loop .held) _ (c .before .before .push .result) (c .before .before .push .ensures))
+slice-aggregate-copy-bytes c = sym (pushed-size (c .before .before .before .before .before .loop .held) _
+    (c .before .before .push .result) (c .before .before .push .ensures))
 
--- src/lossy.rt:107:9
 copy-bytes-requires : tie.Need-copy-bytes-requires Inv-loop μ-loop
 copy-bytes-requires c κs =
     let a = c .before .before .before .before .before .before .before .before .before .before .args in
@@ -69,7 +60,6 @@ copy-bytes-requires c κs =
     let few = pushed-room (l .held) b in
     (omega (arith, ap (λ (x : Pushed). x .len) q), w)
 
--- src/lossy.rt:108:9
 add-n : tie.Need-add-n Inv-loop μ-loop
 add-n c =
     let a = c .before .before .before .before .before .before .before .before .before .before .before .before .before .before .args in
@@ -81,31 +71,30 @@ add-n c =
     let q = c .before .before .before .before .before .before .before .push .ensures in
     omega (arith, writing-room (heldOf (a .from .held)) t (a .from .len) (a .out .now) (l .held) (l .n) _ (l .out) (l .inv .1) b _ e r q)
 
--- src/lossy.rt:110:9
 add-k : tie.Need-add-k Inv-loop μ-loop
 add-k c = omega arith
 
--- src/lossy.rt:104:5
 loop-less : tie.Need-loop-less Inv-loop μ-loop
 loop-less c = omega arith
 
--- src/lossy.rt:104:5
 loop-again : tie.Need-loop-again Inv-loop μ-loop
 loop-again c =
-    let a = c .before .before .before .before .before .before .before .before .before .before .before .before .before .before .before .args in
+    let a = c .before .before .before .before .before .before .before .before .before .before .before .before .before .before
+    .before .args in
     let l = c .before .before .before .before .before .before .before .before .before .before .before .loop in
     let t = take (a .len) (drop (a .start) (a .blob .now)) in
     let b = getD (a .blob .now) (a .start + l .k) 0 in
     let e = part-next (a .blob .now) (a .start) (a .len) (l .k) (omega arith) (omega arith) in
     let r = c .before .before .before .before .before .before .before .before .push .result in
-    let q = c .before .before .before .before .before .before .before .before .push .ensures in
-    (omega arith, writing-more (heldOf (a .from .held)) t (a .from .len) (a .out .now) (l .held) (l .n) _ (l .out) (l .inv .1) b _ e r q _ (c .before .before .before .before .copy-bytes .ensures))
+    let q = c .before .before .before .before .before .before .before .before .push .ensures in (
+      omega arith,
+      writing-more (heldOf (a .from .held)) t (a .from .len) (a .out .now) (l .held) (l .n) _ (l .out) (l .inv .1) b _ e r q _
+          (c .before .before .before .before .copy-bytes .ensures),
+    )
 
--- src/lossy.rt:94:1
 same-length : tie.Need-same-length Inv-loop μ-loop
 same-length c = c .before .loop .inv .1 .same
 
--- src/lossy.rt:94:1
 returns : tie.Need-returns Inv-loop μ-loop
 returns c =
     let a = c .before .before .before .before .before .args in
