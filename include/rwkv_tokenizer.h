@@ -27,15 +27,18 @@
  *   19  no lines
  *   20  full mode: a byte has no token of its own
  *   21  too few blocks in the table, or in a run of marks
- * Encoding; 22 carries an offset and a byte, 23 an offset:
+ * Encoding and streams; 22 carries an offset and a byte, 23 an offset:
  *   22  no token matches
  *   23  too few cells for the ids
+ *   24  fewer cells than bytes held and given
+ *   25  more than 4294967295 bytes in one stream
+ *   26  the stream has ended, or the record is none of a stream
  * Decoding; 27 carries an index and an id, 28 an index, 29 an offset:
  *   27  no token has this id
  *   28  too few cells for the bytes
  *   29  the bytes are not UTF-8
  *
- * After 1 and 2 nothing has changed. After 3 to 21 the vocabulary memory is emptied. With 22, 23, 27, 28 and 29
+ * After 1 and 2, and 24 to 26, nothing has changed. After 3 to 21 the vocabulary memory is emptied. With 22, 23, 27, 28 and 29
  * the ids or bytes made so far stand from the output's start, their number in the report.
  */
 #ifndef RWKV_TOKENIZER_H
@@ -74,5 +77,20 @@ uint32_t rwkv_encode(RWKV_MEMORY, const uint8_t *src, size_t src_len, uint32_t *
 uint32_t rwkv_decode(RWKV_MEMORY, const uint32_t *ids, size_t ids_len, uint8_t *out, size_t out_len, uint64_t report[3]);
 uint32_t rwkv_decode_utf8(RWKV_MEMORY, const uint32_t *ids, size_t ids_len, uint8_t *out, size_t out_len, uint64_t report[3]);
 uint32_t rwkv_decode_lossy(RWKV_MEMORY, const uint32_t *ids, size_t ids_len, uint8_t *out, size_t out_len, uint64_t report[3]);
+
+/* A stream between two calls. Phase: 0 open, 1 stopped, 2 ended. rwkv_fresh makes one. */
+typedef struct {
+    uint32_t total, stop_offset;
+    uint8_t held[254], held_len, stop_byte, phase;
+} rwkv_stream;
+
+void rwkv_fresh(rwkv_stream *stream);
+
+/* Takes a piece and hands out the ids that it decides. Report: count, offset, byte. */
+uint32_t rwkv_add(RWKV_MEMORY, rwkv_stream *stream, const uint8_t *piece, size_t piece_len, uint32_t *out, size_t out_len,
+                  uint64_t report[3]);
+
+/* No more bytes come: hands out the remaining ids. Report: count, offset, byte. */
+uint32_t rwkv_end(RWKV_MEMORY, rwkv_stream *stream, uint32_t *out, size_t out_len, uint64_t report[3]);
 
 #endif

@@ -163,3 +163,43 @@ impl std::error::Error for DecodeError {
         }
     }
 }
+
+/// Why a stream's call was refused.
+#[derive(Debug, Clone, PartialEq, Eq)]
+#[non_exhaustive]
+pub enum StreamError {
+    /// No token matches, whatever bytes follow; the stream has stopped, and every later call says so again: number 22.
+    NoToken(EncodeError),
+    /// More bytes than a stream can count; the call changed nothing: number 25.
+    TooLong,
+    /// The stream has ended: number 26.
+    Ended,
+}
+
+impl StreamError {
+    /// Document 01's number.
+    pub fn number(&self) -> u32 {
+        match self {
+            Self::NoToken(_) => 22,
+            Self::TooLong => 25,
+            Self::Ended => 26,
+        }
+    }
+}
+
+impl fmt::Display for StreamError {
+    fn fmt(&self, f: &mut fmt::Formatter<'_>) -> fmt::Result {
+        match self {
+            Self::NoToken(error) => error.fmt(f),
+            Self::TooLong | Self::Ended => f.write_str(reason(self.number())),
+        }
+    }
+}
+impl std::error::Error for StreamError {
+    fn source(&self) -> Option<&(dyn std::error::Error + 'static)> {
+        match self {
+            Self::NoToken(error) => Some(error),
+            Self::TooLong | Self::Ended => None,
+        }
+    }
+}

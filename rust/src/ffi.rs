@@ -27,6 +27,18 @@ pub struct LoadMemory<'a> {
     pub used_bases: &'a mut [u64],
 }
 
+/// A stream between two calls. Phase: 0 open, 1 stopped, 2 ended.
+#[repr(C)]
+#[derive(Debug, Clone, PartialEq, Eq)]
+pub struct Stream {
+    pub total: u32,
+    pub stop_offset: u32,
+    pub held: [u8; 254],
+    pub held_len: u8,
+    pub stop_byte: u8,
+    pub phase: u8,
+}
+
 /// Which decoding.
 #[derive(Clone, Copy, Debug, PartialEq, Eq)]
 pub enum Decoding {
@@ -67,6 +79,17 @@ unsafe extern "C" {
         single: *const i32, single_len: usize, offsets: *const u32, offsets_len: usize, blob: *const u8, blob_len: usize,
         roots: *const u64, roots_len: usize, table: *const u64, table_len: usize,
         ids: *const u32, ids_len: usize, out: *mut u8, out_len: usize, report: *mut [u64; 3],
+    ) -> u32;
+    fn rwkv_fresh(stream: *mut Stream);
+    fn rwkv_add(
+        single: *const i32, single_len: usize, offsets: *const u32, offsets_len: usize, blob: *const u8, blob_len: usize,
+        roots: *const u64, roots_len: usize, table: *const u64, table_len: usize,
+        stream: *mut Stream, piece: *const u8, piece_len: usize, out: *mut u32, out_len: usize, report: *mut [u64; 3],
+    ) -> u32;
+    fn rwkv_end(
+        single: *const i32, single_len: usize, offsets: *const u32, offsets_len: usize, blob: *const u8, blob_len: usize,
+        roots: *const u64, roots_len: usize, table: *const u64, table_len: usize,
+        stream: *mut Stream, out: *mut u32, out_len: usize, report: *mut [u64; 3],
     ) -> u32;
 }
 
@@ -115,6 +138,43 @@ pub fn decode(m: Memory<'_>, how: Decoding, ids: &[u32], out: &mut [u8]) -> (u32
             m.single.as_ptr(), m.single.len(), m.offsets.as_ptr(), m.offsets.len(), m.blob.as_ptr(), m.blob.len(),
             m.roots.as_ptr(), m.roots.len(), m.table.as_ptr(), m.table.len(),
             ids.as_ptr(), ids.len(), out.as_mut_ptr(), out.len(), &mut report,
+        )
+    };
+    (number, report)
+}
+
+/// `rwkv_fresh`: a new stream.
+pub fn fresh() -> Stream {
+    let mut stream = Stream { total: 0, stop_offset: 0, held: [0; 254], held_len: 0, stop_byte: 0, phase: 0 };
+    // SAFETY: the record lives until the call returns, and is lent to it alone.
+    unsafe { rwkv_fresh(&mut stream) };
+    stream
+}
+
+/// `rwkv_add`: the refusal's number, and count, offset and byte.
+pub fn add(m: Memory<'_>, stream: &mut Stream, piece: &[u8], out: &mut [u32]) -> (u32, [u64; 3]) {
+    let mut report = [0; 3];
+    // SAFETY: each pointer and length is that of a slice that lives until the call returns; the record, `out` and `report` are lent
+    // to it alone.
+    let number = unsafe {
+        rwkv_add(
+            m.single.as_ptr(), m.single.len(), m.offsets.as_ptr(), m.offsets.len(), m.blob.as_ptr(), m.blob.len(),
+            m.roots.as_ptr(), m.roots.len(), m.table.as_ptr(), m.table.len(),
+            stream, piece.as_ptr(), piece.len(), out.as_mut_ptr(), out.len(), &mut report,
+        )
+    };
+    (number, report)
+}
+
+/// `rwkv_end`: the refusal's number, and count, offset and byte.
+pub fn end(m: Memory<'_>, stream: &mut Stream, out: &mut [u32]) -> (u32, [u64; 3]) {
+    let mut report = [0; 3];
+    // SAFETY: as in `add`.
+    let number = unsafe {
+        rwkv_end(
+            m.single.as_ptr(), m.single.len(), m.offsets.as_ptr(), m.offsets.len(), m.blob.as_ptr(), m.blob.len(),
+            m.roots.as_ptr(), m.roots.len(), m.table.as_ptr(), m.table.len(),
+            stream, out.as_mut_ptr(), out.len(), &mut report,
         )
     };
     (number, report)

@@ -1,7 +1,7 @@
 //! A tokenizer for RWKV models over a library whose every function is proved to meet its contract.
 //!
 //! The names are those of the crate that it was ported from, so that whoever uses that one changes the `use` line. This layer
-//! owns the memory that the library is lent, and turns its numbers into errors.
+//! owns the memory that the library is lent, and turns its numbers into errors. It adds streams, which encode text as it comes.
 //!
 //! ```
 //! use bombrezen::RwkvTokenizer;
@@ -9,16 +9,26 @@
 //! let tokenizer = RwkvTokenizer::from_vocab_str_partial("1 'a' 1\n2 'b' 1\n3 'ab' 2\n").unwrap();
 //! assert_eq!(tokenizer.encode("aab").unwrap(), [1, 3]);
 //! assert_eq!(tokenizer.decode_utf8(&[1, 3]).unwrap(), "aab");
+//!
+//! let mut stream = tokenizer.stream();
+//! let mut ids = Vec::new();
+//! stream.add(b"aa", &mut ids).unwrap();
+//! assert_eq!(ids, [1]); // the second a may still become ab
+//! stream.add(b"b", &mut ids).unwrap();
+//! stream.end(&mut ids).unwrap();
+//! assert_eq!(ids, [1, 3]);
 //! ```
 
 mod errors;
 #[rustfmt::skip]
 pub mod ffi;
 mod load;
+mod stream;
 
-pub use errors::{DecodeError, EncodeError, Place, Refusal, VocabError, reason};
+pub use errors::{DecodeError, EncodeError, Place, Refusal, StreamError, VocabError, reason};
 use std::path::Path;
 use std::sync::Arc;
+pub use stream::Stream;
 
 /// Number of token ids (0..65536); id 0 is reserved.
 pub const VOCAB_SIZE: usize = 65_536;
@@ -110,6 +120,11 @@ impl RwkvTokenizer {
         }
     }
 
+    /// A stream over this vocabulary, with nothing taken yet.
+    pub fn stream(&self) -> Stream {
+        Stream::new(self.clone())
+    }
+
     /// Joins the tokens' bytes; fails on an id without a token.
     pub fn decode_bytes(&self, tokens: &[u32]) -> Result<Vec<u8>, DecodeError> {
         self.decode(ffi::Decoding::Bytes, tokens)
@@ -125,29 +140,35 @@ impl RwkvTokenizer {
         self.decode(ffi::Decoding::Lossy, tokens).map(text_of)
     }
 
-    /// Decodes with room for tokens of eight bytes, and, where the library says that this is too little, with the most needed.
+    /// Decodes with room for six bytes a token, and with more where the library says that this is too little: bytes then go on
+    /// where they stopped, and text, which is looked at as a whole, starts anew.
     fn decode(&self, how: ffi::Decoding, tokens: &[u32]) -> Result<Vec<u8>, DecodeError> {
-        let mut out = vec![0; 8 * tokens.len()];
-        let mut answer = ffi::decode(self.memory(), how, tokens, &mut out);
-        if answer.0 == 28 {
-            out = vec![0; self.most_bytes(tokens)];
-            answer = ffi::decode(self.memory(), how, tokens, &mut out);
-        }
-        let (number, [len, index, id]) = answer;
-        out.truncate(len as usize);
-        match number {
-            0 => Ok(out),
-            27 => Err(DecodeError::MissingToken { token_index: index as usize, token_id: id as u32 }),
-            29 => Err(DecodeError::InvalidUtf8(String::from_utf8(out).expect_err("the library's contract says that it is not"))),
-            number => unreachable!("memory and output of full length were refused: {}", reason(number)),
+        let mut out = vec![0; 6 * tokens.len()];
+        let (mut done, mut len) = (0, 0);
+        loop {
+            let (number, [more, index, id]) = ffi::decode(self.memory(), how, &tokens[done..], &mut out[len..]);
+            match number {
+                27 => return Err(DecodeError::MissingToken { token_index: done + index as usize, token_id: id as u32 }),
+                28 if how == ffi::Decoding::Bytes => (done, len) = (done + index as usize, len + more as usize),
+                28 => {}
+                number => {
+                    out.truncate(len + more as usize);
+                    return decoded(number, out);
+                }
+            }
+            out.resize(2 * out.len() + 255, 0);
         }
     }
+}
 
-    /// As many bytes as these tokens can decode to: U+FFFD takes three, and may stand for one.
-    fn most_bytes(&self, tokens: &[u32]) -> usize {
-        let offsets = &self.tables.offsets;
-        let len = |&id: &u32| offsets.get(id as usize..id as usize + 2).map_or(0, |pair| pair[1] - pair[0]);
-        3 * tokens.iter().map(|id| len(id) as usize).sum::<usize>()
+/// What a decoding gives that was not refused for its ids or its room.
+fn decoded(number: u32, out: Vec<u8>) -> Result<Vec<u8>, DecodeError> {
+    match number {
+        0 => Ok(out),
+        29 => {
+            Err(DecodeError::InvalidUtf8(String::from_utf8(out).expect_err("the library's contract says that it is not UTF-8")))
+        }
+        number => unreachable!("memory of full length was refused: {}", reason(number)),
     }
 }
 

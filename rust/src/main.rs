@@ -1,4 +1,4 @@
-//! The command: encode, decode and check from a terminal.
+//! The command: encode, decode, stream and check from a terminal.
 use bombrezen::{PHRASEOLOGY, Place, Refusal, RwkvTokenizer, VocabError};
 use std::fmt::Write as _;
 use std::io::{self, Read, Write};
@@ -7,8 +7,10 @@ use std::process::ExitCode;
 
 const USAGE: &str = "\
 usage: bombrezen COMMAND [OPTIONS]
+  demo [TEXT]      encode a sentence, then stream it word by word
   encode [TEXT]    the ids of a text
   decode [ID ..]   the bytes of ids
+  stream           the ids of standard input, as it comes
   check FILE       load a vocabulary: its counts, or why it is refused
 encode and decode read standard input where nothing is given.
 options:
@@ -61,8 +63,10 @@ fn main() -> ExitCode {
 
 fn run(command: &str, options: &Options) -> Result<(), Failure> {
     match command {
+        "demo" => demo(options),
         "encode" => encode(options),
         "decode" => decode(options),
+        "stream" => stream(options),
         "check" => check(options),
         "help" | "--help" | "-h" => {
             println!("{USAGE}");
@@ -190,6 +194,25 @@ fn decode(options: &Options) -> Result<(), Failure> {
     Ok(io::stdout().write_all(&bytes.map_err(refused)?)?)
 }
 
+/// Each read is a piece; its ids are printed before the next read.
+fn stream(options: &Options) -> Result<(), Failure> {
+    let tokenizer = options.tokenizer()?;
+    let mut stream = tokenizer.stream();
+    let mut piece = vec![0; 1 << 16];
+    loop {
+        let len = io::stdin().read(&mut piece)?;
+        let mut ids = Vec::new();
+        let answer = if len == 0 { stream.end(&mut ids) } else { stream.add(&piece[..len], &mut ids) };
+        if !ids.is_empty() {
+            print_ids(&tokenizer, &ids, options.show)?;
+        }
+        answer.map_err(refused)?;
+        if len == 0 {
+            return Ok(());
+        }
+    }
+}
+
 fn check(options: &Options) -> Result<(), Failure> {
     let [file] = options.words.as_slice() else { return Err(misused("check needs one file")) };
     let (tokenizer, len) = load(&lossy(file), options.partial)?;
@@ -199,5 +222,34 @@ fn check(options: &Options) -> Result<(), Failure> {
     println!("{:>8} nodes", counts.nodes);
     println!("{:>8} blob bytes", counts.blob_bytes);
     println!("{:>8} table words", counts.table_words);
+    Ok(())
+}
+
+/// Encodes a sentence, streams it word by word, and compares.
+fn demo(options: &Options) -> Result<(), Failure> {
+    let tokenizer = options.tokenizer()?;
+    let sentence = b"Bombrezen 412, wind 270 degrees at 8 knots, runway 27 left, cleared for takeoff.".to_vec();
+    let text = if options.words.is_empty() { sentence } else { options.words.join(&b' ') };
+    println!("whole:");
+    let whole = tokenizer.encode_bytes(&text).map_err(refused)?;
+    print_ids(&tokenizer, &whole, true)?;
+    println!("\nword by word, each id as soon as no later byte can change it:");
+    let mut stream = tokenizer.stream();
+    let mut ids = Vec::new();
+    for piece in text.split_inclusive(|&byte| byte == b' ').map(Some).chain([None]) {
+        let before = ids.len();
+        match piece {
+            Some(piece) => stream.add(piece, &mut ids),
+            None => stream.end(&mut ids),
+        }
+        .map_err(refused)?;
+        let tokens = tokenizer.decode_bytes(&ids[before..]).map_err(refused)?;
+        let piece = piece.map_or("end".to_string(), |piece| format!("{:?}", lossy(piece)));
+        println!("{piece:>16}  gives {:?} for {:?}", &ids[before..], lossy(&tokens));
+    }
+    if ids != whole {
+        return Err(refused("the stream's ids are not those of the whole text"));
+    }
+    println!("\nthe same {} ids", ids.len());
     Ok(())
 }

@@ -9,6 +9,12 @@ abcd 0: 4
 aab 0: 1 3
 abc 22: 3 (offset 2, byte 99)
 decode 0: abcda
+ab 0:
+b 0: 3
+c 0: 5
+end 0:
+abc 0:
+end 22: 3 (offset 2, byte 99)
 ";
 
 #[test]

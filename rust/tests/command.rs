@@ -52,6 +52,17 @@ fn what_is_encoded_decodes_to_itself() {
 }
 
 #[test]
+fn streams() {
+    let (status, whole, _) = run(&["encode"], b"cleared for takeoff, wind calm");
+    assert_eq!(status, 0);
+    let (status, streamed, _) = run(&["stream"], b"cleared for takeoff, wind calm");
+    assert_eq!((status, streamed.split_whitespace().collect::<Vec<_>>()), (0, whole.split_whitespace().collect()));
+    let v = file("v_stream.txt", V);
+    let (status, out, error) = run(&["stream", "--vocab", &v, "--partial"], b"abc");
+    assert!((status, out.as_str()) == (1, "3\n") && error.contains("0x63 at byte offset 2"), "{out} {error}");
+}
+
+#[test]
 fn checks() {
     let (status, out, _) = run(&["check", "--partial", &file("v_check.txt", V)], b"");
     assert_eq!(status, 0);
@@ -75,4 +86,5 @@ fn misuse_is_told() {
     let (status, _, error) = run(&["check", "no such file"], b"");
     assert!(status == 1 && error.contains("no such file"), "{error}");
     assert!(run(&["decode", "12x"], b"").2.contains("\"12x\" is no id"));
+    assert!(run(&["demo"], b"").1.contains("the same"));
 }

@@ -1,4 +1,4 @@
-/* Loads document 01's vocabulary V, encodes and decodes, and prints what comes out. */
+/* Loads document 01's vocabulary V, encodes, decodes and streams, and prints what comes out. */
 #include "rwkv_tokenizer.h"
 #include <inttypes.h>
 #include <stdio.h>
@@ -45,12 +45,28 @@ static void decode(void) {
     printf("decode %" PRIu32 ": %.*s\n", number, (int)report[0], (const char *)out);
 }
 
+static void stream(const char *const *pieces, size_t count) {
+    rwkv_stream stream;
+    uint32_t ids[64];
+    uint64_t report[3];
+    rwkv_fresh(&stream);
+    for (size_t i = 0; i < count; i++) {
+        uint32_t number = rwkv_add(MEMORY, &stream, BYTES(pieces[i]), PART(ids), report);
+        print_ids(pieces[i], number, ids, report);
+    }
+    uint32_t number = rwkv_end(MEMORY, &stream, PART(ids), report);
+    print_ids("end", number, ids, report);
+}
+
 int main(void) {
+    const char *const pieces[] = {"ab", "b", "c"}, *const stopped[] = {"abc"};
     load("0 'a' 1\n");
     load("1 'a' 1\n2 'b' 1\n3 'ab' 2\n4 'abcd' 4\n5 'bc' 2\n");
     encode("abcd");
     encode("aab");
     encode("abc");
     decode();
+    stream(pieces, LEN(pieces));
+    stream(stopped, LEN(stopped));
     return 0;
 }

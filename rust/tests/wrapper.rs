@@ -1,5 +1,5 @@
 //! The wrapper on document 01's examples, and where it has to lend more memory.
-use bombrezen::{DecodeError, PHRASEOLOGY, Place, Refusal, RwkvTokenizer, VocabError};
+use bombrezen::{DecodeError, PHRASEOLOGY, Place, Refusal, RwkvTokenizer, StreamError, VocabError};
 
 /// Document 01's vocabulary V.
 fn v() -> RwkvTokenizer {
@@ -39,6 +39,31 @@ fn v_decodes() {
 }
 
 #[test]
+fn v_streams() {
+    let mut stream = v().stream();
+    let mut ids = Vec::new();
+    for (piece, decided) in [("ab", &[][..]), ("b", &[3]), ("c", &[3, 5])] {
+        stream.add(piece.as_bytes(), &mut ids).unwrap();
+        assert_eq!(ids, decided);
+    }
+    stream.end(&mut ids).unwrap();
+    assert_eq!((ids.as_slice(), stream.total(), stream.held()), (&[3, 5][..], 4, &b""[..]));
+    assert_eq!(stream.add(b"a", &mut ids), Err(StreamError::Ended));
+}
+
+#[test]
+fn a_stream_that_stops_says_so_again() {
+    let mut stream = v().stream();
+    let mut ids = Vec::new();
+    stream.add(b"abc", &mut ids).unwrap();
+    assert_eq!(stream.held(), b"abc");
+    for _ in 0..2 {
+        let Err(StreamError::NoToken(error)) = stream.end(&mut ids) else { panic!("abc can't be encoded") };
+        assert_eq!((error.byte_offset, error.byte, ids.as_slice()), (2, b'c', &[3][..]));
+    }
+}
+
+#[test]
 fn refusals_have_number_place_and_words() {
     assert_eq!(refusal(b"1 'a' 1\n2 'b 1", true), (12, Place::Line(2)));
     assert_eq!(refusal(b"1 'a' 1\n2 '\xff' 1", true), (2, Place::Offset(11)));
@@ -67,6 +92,19 @@ fn more_memory_is_lent_where_it_is_needed() {
     assert_eq!(tokenizer.encode(&(token('h') + &token('b'))).unwrap(), [7, 1]);
     assert_eq!(tokenizer.decode_utf8(&[3; 9]).unwrap(), token('d').repeat(9));
     assert_eq!(tokenizer.decode_lossy(&[3; 9]).unwrap(), token('d').repeat(9));
+}
+
+#[test]
+fn held_bytes_are_254_at_most() {
+    let text = format!("1 'a' 1\n2 '{}' 255\n", "a".repeat(255));
+    let mut stream = RwkvTokenizer::from_vocab_str_partial(&text).unwrap().stream();
+    let mut ids = Vec::new();
+    for _ in 0..254 {
+        stream.add(b"a", &mut ids).unwrap();
+    }
+    assert_eq!((stream.held().len(), ids.len()), (254, 0));
+    stream.add(b"a", &mut ids).unwrap();
+    assert_eq!((stream.held().len(), ids.as_slice()), (0, &[2][..]));
 }
 
 #[test]

@@ -62,6 +62,12 @@ mod compare {
         for (name, src) in &inputs {
             decode(name, &ours, &theirs, src);
         }
+        for (name, src) in &inputs {
+            stream(name, &ours, src);
+        }
+        for size in [1, 8, 64] {
+            small_pieces(&ours, &inputs[0].1, size);
+        }
         sizes(&ours, &theirs);
     }
 
@@ -103,6 +109,36 @@ mod compare {
         row(&format!("decode lossy, {name}"), times, src.len(), "byte");
     }
 
+    /// A stream in pieces of 64 KiB against the library's own encoding of the whole, both into lent cells.
+    fn stream(name: &str, ours: &RwkvTokenizer, src: &[u8]) {
+        let (mut some, mut all) = (vec![0; src.len()], vec![0; src.len()]);
+        let times = race(
+            ROUNDS,
+            [&mut || streamed(ours, src, 1 << 16, &mut some), &mut || {
+                black_box(ffi::encode(ours.memory(), black_box(src), &mut all));
+            }],
+        );
+        row(&format!("stream/encode, {name}"), times, src.len(), "byte");
+    }
+
+    /// Every piece of a size through a stream, its ids into the same cells.
+    fn streamed(ours: &RwkvTokenizer, src: &[u8], size: usize, out: &mut [u32]) {
+        let mut record = ffi::fresh();
+        for piece in src.chunks(size) {
+            black_box(ffi::add(ours.memory(), &mut record, black_box(piece), out));
+        }
+        black_box(ffi::end(ours.memory(), &mut record, out));
+    }
+
+    fn small_pieces(ours: &RwkvTokenizer, src: &[u8], size: usize) {
+        let src = &src[..src.len() / 4];
+        let mut out = vec![0; 1024];
+        let [nanos] = race(ROUNDS / 2, [&mut || streamed(ours, src, size, &mut out)]);
+        let calls = src.len().div_ceil(size);
+        let name = format!("stream, pieces of {size}");
+        println!("{name:<26} {:>9.2} ns a call, {:.2} ns a byte", nanos / calls as f64, nanos / src.len() as f64);
+    }
+
     fn sizes(ours: &RwkvTokenizer, theirs: &Original) {
         let m = ours.memory();
         let bytes =
@@ -110,7 +146,7 @@ mod compare {
         let (blob, offsets, single, roots, table) = theirs.raw();
         let other = size_of_val(blob) + size_of_val(offsets) + size_of_val(single) + size_of_val(roots) + size_of_val(table);
         println!("vocabulary memory: {bytes} bytes, the Rust's {other}");
-        println!("a node of the work memory: {} bytes", size_of::<ffi::Node>());
+        println!("a stream's record: {} bytes; a node: {} bytes", size_of::<ffi::Stream>(), size_of::<ffi::Node>());
     }
 
     /// Tokens at random: words, code, several scripts.

@@ -3,8 +3,8 @@ use super::random::Random;
 use super::sides::{Lent, decode, encode, original_load};
 use super::tally::Tally;
 use super::texts::tokens_of;
-use bombrezen::RwkvTokenizer;
 use bombrezen::ffi::Decoding;
+use bombrezen::{RwkvTokenizer, StreamError};
 
 pub fn large(tally: &mut Tally, text: &str) {
     let original =
@@ -36,5 +36,17 @@ pub fn large(tally: &mut Tally, text: &str) {
         tally.case(0, tokenizer.decode_bytes(&ids).is_ok_and(|bytes| bytes == src), || format!("decoding of round {round}"));
         let (ours, theirs) = (tokenizer.decode_lossy(&ids).ok(), original.decode_lossy(&ids).ok());
         tally.case(0, ours.is_some() && ours == theirs, || format!("lossy decoding of round {round}"));
+        let size = 1 + random.below(5000);
+        tally.case(0, streamed(&tokenizer, &src, size) == Ok(whole), || format!("stream of round {round} in pieces of {size}"));
     }
+}
+
+fn streamed(tokenizer: &RwkvTokenizer, src: &[u8], size: usize) -> Result<Vec<u32>, StreamError> {
+    let mut ids = Vec::new();
+    let mut stream = tokenizer.stream();
+    for piece in src.chunks(size) {
+        stream.add(piece, &mut ids)?;
+    }
+    stream.end(&mut ids)?;
+    Ok(ids)
 }

@@ -7,6 +7,7 @@ mod memory;
 mod random;
 mod refusals;
 mod sides;
+mod streams;
 mod tally;
 mod texts;
 
@@ -16,7 +17,7 @@ type Group = (&'static str, fn(&mut Tally));
 
 /// Runs every group, prints its counts and the sum; fails if anything differs.
 pub fn all() {
-    let groups: [Group; 12] = [
+    let groups: [Group; 15] = [
         ("short literals", texts::literals),
         ("short lines, fields", texts::lines),
         ("pairs of lines", texts::pairs_of_lines),
@@ -25,10 +26,13 @@ pub fn all() {
         ("long tokens and numbers", texts::long),
         ("room: 17, 18, 21", refusals::room),
         ("short memory: 1", refusals::short_memory),
+        ("refused calls of streams", refusals::calls),
         ("inputs and id lists", inputs::inputs),
         ("all short inputs", inputs::short_inputs),
         ("other memory, encoding", memory::encoding),
         ("other memory, decoding", memory::decoding),
+        ("streams", streams::streams),
+        ("all short streams", streams::short_streams),
     ];
     std::panic::set_hook(Box::new(|panic| {
         // The original panics on some other memory, which is expected.

@@ -1,9 +1,9 @@
-//! Refusals that the original hasn't, against document 01's table: 1, 17, 18 and 21.
+//! Refusals that the original hasn't, against document 01's table: 1, 17, 18, 21, and 24 to 26.
 use super::random::Random;
 use super::sides::{Lent, original_load};
 use super::tally::Tally;
 use super::texts::{tokens_of, vocabulary};
-use bombrezen::ffi::{self, Decoding, Memory};
+use bombrezen::ffi::{self, Decoding, Memory, Stream};
 
 /// Number 1: each part a cell too short, for every call; nothing changes.
 pub fn short_memory(tally: &mut Tally) {
@@ -15,9 +15,12 @@ pub fn short_memory(tally: &mut Tally) {
         let (mut blob, mut table) = (vec![3; 64], vec![3; 512]);
         let memory = Memory { single: &single, offsets: &offsets, blob: &blob, roots: &roots, table: &table };
         let (ids, bytes) = (&mut [5; 4], &mut [5; 4]);
+        let mut stream = Stream { phase: 2, ..ffi::fresh() };
         let mut numbers = vec![ffi::encode(memory, b"a", ids).0 == 1];
         numbers
             .extend([Decoding::Bytes, Decoding::Text, Decoding::Lossy].map(|how| ffi::decode(memory, how, &[1], bytes).0 == 1));
+        numbers.push(ffi::add(memory, &mut stream, b"a", ids).0 == 1);
+        numbers.push(ffi::end(memory, &mut stream, ids).0 == 1);
         let (nodes, used, used_bases) = (&mut [ffi::Node::default(); 8], &mut [9; 8], &mut [9; 8]);
         let (single, offsets, blob, roots, table) =
             (&mut single[..], &mut offsets[..], &mut blob[..], &mut roots[..], &mut table[..]);
@@ -28,6 +31,42 @@ pub fn short_memory(tally: &mut Tally) {
             *used != [9; 8] || *used_bases != [9; 8] || wanted == 1 && (*ids, *bytes, report) != ([5; 4], [5; 4], [0; 6]);
         for one in numbers {
             tally.case(u32::from(one), u32::from(one) == wanted && !changed, || format!("short memory: {one} and not {wanted}"));
+        }
+    }
+}
+
+/// 26, 22, 25 and 24 in this order, over records of every kind; a refused call changes nothing.
+pub fn calls(tally: &mut Tally) {
+    let mut lent = Lent::new(64, 64, 4);
+    lent.load(b"1 'a' 1\n2 'b' 1\n3 'ab' 2\n", true);
+    for phase in [0, 1, 2, 3, 255] {
+        for held_len in [0, 1, 2, 254, 255] {
+            for total in [0, 1, 2, 254, 255, u32::MAX - 2, u32::MAX] {
+                for (piece, room) in [(0, 0), (0, 1), (1, 255), (2, 256), (3, 257), (3, 4), (2, 1)] {
+                    let record = Stream { total, stop_offset: 77, held: [b'a'; 254], held_len, stop_byte: 78, phase };
+                    let held = usize::from(held_len);
+                    for end in [false, true] {
+                        let (piece, out) = (if end { 0 } else { piece }, &mut vec![5; room][..]);
+                        let mut after = record.clone();
+                        let (number, report) = match end {
+                            false => ffi::add(lent.memory(), &mut after, &b"aaa"[..piece], out),
+                            true => ffi::end(lent.memory(), &mut after, out),
+                        };
+                        let wanted = match () {
+                            () if phase > 1 || held > 254 || held > total as usize => 26,
+                            () if phase == 1 => 22,
+                            () if piece > (u32::MAX - total) as usize => 25,
+                            () if room < held + piece => 24,
+                            () => 0,
+                        };
+                        let carried = if wanted == 22 { [0, 77, 78] } else { [0; 3] };
+                        let kept = after == record && report == carried && out.iter().all(|&cell| cell == 5);
+                        tally.case(number, number == wanted && (wanted == 0 || kept), || {
+                            format!("{record:?}, {piece}, {room}: {number}")
+                        });
+                    }
+                }
+            }
         }
     }
 }
