@@ -61,6 +61,10 @@ pub fn copy_token(src: &[u8], start: usize, len: usize, dst: &mut [u8], at: usiz
 {
     if src.len() - start >= len + 8 {
         if end - at >= len + 8 {
+            if len <= 8 {
+                copy8(src, start, dst, at);
+                return;
+            }
             copy_eights(src, start, len, dst, at);
             return;
         }
