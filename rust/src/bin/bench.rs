@@ -1,5 +1,7 @@
 //! Times of the library against those of the Rust crate that it was ported from: one process, the same vocabulary, in turns, the
-//! least of many rounds. RWKV_ORIGINAL names the crate's folder when this is built, RWKV_LARGE a large vocabulary when it is run.
+//! least of many rounds. A call is lent its output; the wrapper makes it anew, as the Rust does. RWKV_ORIGINAL names the crate's folder
+//! when this is built, RWKV_LARGE a large vocabulary when it is run. The machine should be quiet: the Rust gives way to others every
+//! millisecond, and so seems slower on a busy one.
 
 #[cfg(not(original))]
 fn main() {
@@ -17,14 +19,15 @@ fn main() {
 
 #[cfg(original)]
 mod compare {
-    use bombrezen::{PHRASEOLOGY, RwkvTokenizer, ffi};
+    use bombrezen::ffi::{self, Decoding};
+    use bombrezen::{PHRASEOLOGY, RwkvTokenizer};
     use original::RwkvTokenizer as Original;
     use std::hint::black_box;
     use std::time::Instant;
 
     /// Bytes of each input.
-    const SIZE: usize = 1 << 18;
-    const ROUNDS: usize = 60;
+    const SIZE: usize = 1 << 22;
+    const ROUNDS: usize = 30;
 
     /// The least nanoseconds of each, taken in turns.
     fn race<const N: usize>(rounds: usize, mut runs: [&mut dyn FnMut(); N]) -> [f64; N] {
@@ -42,7 +45,13 @@ mod compare {
     /// Prints a row: both sides per unit, and the ratio.
     fn row(name: &str, [ours, theirs]: [f64; 2], count: usize, unit: &str) {
         let per = |nanos: f64| nanos / count as f64;
-        println!("{name:<26} {:>9.2} {:>9.2}  ns {unit:<6} {:>6.2}", per(ours), per(theirs), ours / theirs);
+        println!("{name:<34} {:>9.2} {:>9.2}  ns {unit:<6} {:>6.2}", per(ours), per(theirs), ours / theirs);
+    }
+
+    /// Two rows: the call and the wrapper.
+    fn rows(name: &str, [call, wrapper, theirs]: [f64; 3], count: usize, unit: &str) {
+        row(name, [call, theirs], count, unit);
+        row(&format!("{name}, wrapper"), [wrapper, theirs], count, unit);
     }
 
     pub fn all() {
@@ -53,15 +62,16 @@ mod compare {
         });
         let ours = RwkvTokenizer::from_vocab_str(text).expect("a full vocabulary");
         let theirs = Original::from_vocab_str(text).expect("a full vocabulary");
-        println!("{:<26} {:>9} {:>9}  {:<9} {:>6}", "", "library", "Rust", "a", "ratio");
+        println!("{:<34} {:>9} {:>9}  {:<9} {:>6}", "", "library", "Rust", "a", "ratio");
         load(text);
         let inputs = [("mixed", mixed(&ours)), ("prose", prose()), ("random", random_bytes())];
         for (name, src) in &inputs {
             encode(name, &ours, &theirs, src);
         }
         for (name, src) in &inputs {
-            decode(name, &ours, &theirs, src);
+            decode(name, &ours, &theirs, &ours.encode_bytes(src).expect("a full vocabulary"));
         }
+        decode("random ids", &ours, &theirs, &random_ids(&ours));
         for (name, src) in &inputs {
             stream(name, &ours, src);
         }
@@ -82,31 +92,39 @@ mod compare {
     }
 
     fn encode(name: &str, ours: &RwkvTokenizer, theirs: &Original, src: &[u8]) {
+        let mut out = vec![0; src.len()];
         let times = race(
             ROUNDS,
-            [&mut || drop(black_box(ours.encode_bytes(black_box(src)))), &mut || {
-                drop(black_box(theirs.encode_bytes(black_box(src))))
-            }],
+            [
+                &mut || _ = black_box(ffi::encode(ours.memory(), black_box(src), &mut out)),
+                &mut || drop(black_box(ours.encode_bytes(black_box(src)))),
+                &mut || drop(black_box(theirs.encode_bytes(black_box(src)))),
+            ],
         );
-        row(&format!("encode, {name}"), times, src.len(), "byte");
+        rows(&format!("encode, {name}"), times, src.len(), "byte");
     }
 
-    fn decode(name: &str, ours: &RwkvTokenizer, theirs: &Original, src: &[u8]) {
-        let ids = ours.encode_bytes(src).expect("a full vocabulary");
+    fn decode(name: &str, ours: &RwkvTokenizer, theirs: &Original, ids: &[u32]) {
+        let bytes = ours.decode_bytes(ids).expect("ids of the vocabulary").len();
+        let mut out = vec![0; 3 * bytes];
         let times = race(
             ROUNDS,
-            [&mut || drop(black_box(ours.decode_bytes(black_box(&ids)))), &mut || {
-                drop(black_box(theirs.decode_bytes(black_box(&ids))))
-            }],
+            [
+                &mut || _ = black_box(ffi::decode(ours.memory(), Decoding::Bytes, black_box(ids), &mut out)),
+                &mut || drop(black_box(ours.decode_bytes(black_box(ids)))),
+                &mut || drop(black_box(theirs.decode_bytes(black_box(ids)))),
+            ],
         );
-        row(&format!("decode, {name}"), times, src.len(), "byte");
+        rows(&format!("decode, {name}"), times, bytes, "byte");
         let times = race(
-            ROUNDS,
-            [&mut || drop(black_box(ours.decode_lossy(black_box(&ids)))), &mut || {
-                drop(black_box(theirs.decode_lossy(black_box(&ids))))
-            }],
+            ROUNDS / 3,
+            [
+                &mut || _ = black_box(ffi::decode(ours.memory(), Decoding::Lossy, black_box(ids), &mut out)),
+                &mut || drop(black_box(ours.decode_lossy(black_box(ids)))),
+                &mut || drop(black_box(theirs.decode_lossy(black_box(ids)))),
+            ],
         );
-        row(&format!("decode lossy, {name}"), times, src.len(), "byte");
+        rows(&format!("decode lossy, {name}"), times, bytes, "byte");
     }
 
     /// A stream in pieces of 64 KiB against the library's own encoding of the whole, both into lent cells.
@@ -136,7 +154,7 @@ mod compare {
         let [nanos] = race(ROUNDS / 2, [&mut || streamed(ours, src, size, &mut out)]);
         let calls = src.len().div_ceil(size);
         let name = format!("stream, pieces of {size}");
-        println!("{name:<26} {:>9.2} ns a call, {:.2} ns a byte", nanos / calls as f64, nanos / src.len() as f64);
+        println!("{name:<34} {:>9.2} ns a call, {:.2} ns a byte", nanos / calls as f64, nanos / src.len() as f64);
     }
 
     fn sizes(ours: &RwkvTokenizer, theirs: &Original) {
@@ -149,15 +167,22 @@ mod compare {
         println!("a stream's record: {} bytes; a node: {} bytes", size_of::<ffi::Stream>(), size_of::<ffi::Node>());
     }
 
-    /// Tokens at random: words, code, several scripts.
-    fn mixed(ours: &RwkvTokenizer) -> Vec<u8> {
+    /// Ids at random that have a token: words, code, several scripts.
+    fn random_ids(ours: &RwkvTokenizer) -> Vec<u32> {
         let mut seed = 1;
-        let mut src = Vec::new();
-        while src.len() < SIZE {
-            let id = next(&mut seed) % 65_536;
-            src.extend(ours.decode_bytes(&[id as u32]).unwrap_or_default());
+        let mut ids = Vec::new();
+        while ids.len() < SIZE / 8 {
+            let id = (next(&mut seed) % 65_536) as u32;
+            if ours.decode_bytes(&[id]).is_ok() {
+                ids.push(id);
+            }
         }
-        src
+        ids
+    }
+
+    /// Their bytes.
+    fn mixed(ours: &RwkvTokenizer) -> Vec<u8> {
+        ours.decode_bytes(&random_ids(ours)).expect("ids of the vocabulary")
     }
 
     /// The pages of this repository, again and again.
