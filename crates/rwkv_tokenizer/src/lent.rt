@@ -130,7 +130,7 @@ pub extern "C" fn rwkv_add(
         (recordOf (now (stream .entry))) (spec.add (now (piece .entry)) (now (out .entry))))
         r (now (report .exit)) (now (stream .exit)) (now (out .entry)) (now (out .exit)) ⌝ }
 {
-    let left = add(
+    let added = add(
         single,
         offsets,
         blob,
@@ -141,8 +141,8 @@ pub extern "C" fn rwkv_add(
         out,
         report,
     );
-    *stream = left.stream;
-    left.number
+    *stream = added.stream;
+    added.number
 }
 
 // The end of the stream: the ids of the held bytes.
@@ -162,9 +162,9 @@ pub extern "C" fn rwkv_end(
         (recordOf (now (stream .entry))) (spec.end (now (out .entry))))
         r (now (report .exit)) (now (stream .exit)) (now (out .entry)) (now (out .exit)) ⌝ }
 {
-    let left = end(single, offsets, blob, roots, table, *stream, out, report);
-    *stream = left.stream;
-    left.number
+    let ended = end(single, offsets, blob, roots, table, *stream, out, report);
+    *stream = ended.stream;
+    ended.number
 }
 
 // A new stream.
