@@ -4,7 +4,7 @@ ghost use Prim.Native.Nat.{_/_};
 ghost use lib.ListN.{length};
 ghost use Rattle.spec.specs.Memory.{memory};
 ghost use Rattle.spec.specs.Load.{tableRoom};
-ghost use Rattle.vocabulary.specs.Answers.{placeOf, answerOf};
+ghost use Rattle.vocabulary.specs.Answers.{placeOf, answerOf, WorkKept};
 ghost use Rattle.rwkv_tokenizer.specs.Report.{placeKind, placeValue, loadReport, LoadReported};
 use vocabulary::Load;
 use vocabulary::Place;
@@ -69,7 +69,7 @@ fn numbered(load: Load) -> Answer
 
 // A vocabulary text into the memory, in partial or full mode. The report: the kind of the refusal's place (0 none, 1 line, 2 offset,
 // 3 byte) and the place, or the counts of tokens, nodes, blob bytes and table words. `nodes` has six numbers to a node; what it and the
-// runs of marks hold afterwards is anything.
+// runs of marks hold afterwards is anything, but after 1 and 2 what they held.
 #[no_mangle]
 pub extern "C" fn rwkv_load(
     text: &[u8],
@@ -84,11 +84,13 @@ pub extern "C" fn rwkv_load(
     used_bases: &mut [u64],
     report: &mut [u64; 6],
 ) -> u32
-    ensures { λ r. ⌜ LoadReported partial (length (now (nodes .entry)) / 6)
+    ensures loads { λ r. ⌜ LoadReported partial (length (now (nodes .entry)) / 6)
         (tableRoom (length (now (table .entry))) (length (now (used .entry))) (length (now («used_bases» .entry))))
         (memory (now (single .entry)) (now (offsets .entry)) (now (blob .entry)) (now (roots .entry)) (now (table .entry)))
         (now (text .entry)) r (now (report .exit))
         (memory (now (single .exit)) (now (offsets .exit)) (now (blob .exit)) (now (roots .exit)) (now (table .exit))) ⌝ }
+    ensures work { λ r. ⌜ WorkKept r (now (nodes .entry)) (now (used .entry)) (now («used_bases» .entry))
+        (now (nodes .exit)) (now (used .exit)) (now («used_bases» .exit)) ⌝ }
 {
     let load = vocabulary::from_vocab_str_mode(
         text,

@@ -45,6 +45,10 @@ abbrev pub answerOf : Load → LoadAnswer
 answerOf (Load.Accepted c) = record { number = 0; place = nowhere; counts = countOf c }
 answerOf (Load.Refused f) = record { number = f .number; place = placeOf (f .place); counts = noCounts }
 
+-- "After 1 and 2 nothing has changed": the work memory is as it was. Otherwise its contents are free.
+abbrev pub WorkKept : ℕ → (ns us bs ns′ us′ bs′ : List ℕ) → Type 0
+WorkKept number ns us bs ns′ us′ bs′ = 1 ≤ number → number ≤ 2 → (ns′ ≡ ns) × (us′ ≡ us) × (bs′ ≡ bs)
+
 -- ---- parts of a load
 
 -- the answer of a build that came to its end

@@ -209,16 +209,24 @@ module _ (partial : Bool) (nodes table : ℕ) (m : Memory) (text : List ℕ) whe
         starts = λ k. first-bad-ill text i b;
       }
 
-  -- what stands in the text is never refused with 2
-  not-two : (o : Outcome) → load partial R text ≡ o → settled m o .answer .number ≡ 2 → ⊥
+  -- what stands in the text is never refused with 1 or 2
+  not-early : (o : Outcome) → load partial R text ≡ o → 1 ≤ settled m o .answer .number → settled m o .answer .number ≤ 2 → ⊥
   unfolding settled
-  not-two (accepted ts) e k = omega arith
-  not-two (refused n p) e k = let h = load-refused partial R text n p e in omega arith
+  not-early (accepted ts) e j k = omega arith
+  not-early (refused n p) e j k = let h = load-refused partial R text n p e in omega arith
 
-  pub loads-text : tooShort m ≡ false → (t : Text) → textMeans t ≡ firstBad text → t ≡ Text.WellFormed
-      → (r : LoadResult) → r ≡ settled m (load partial R text) → LoadsTo partial nodes table m text r
-  loads-text e t f g r q = record {
-    bad = 0;
-    result = q ∙ sym (by-tests 0 partial nodes table m text false true e (well-formed-first text ∙ ap isNone (sym f ∙ ap textMeans g)));
-    starts = λ k. absurd (not-two (load partial R text) refl (ap (λ (x : LoadResult). x .answer .number) (sym q) ∙ k));
-  }
+  module _ (r : LoadResult) (q : r ≡ settled m (load partial R text)) where
+    same-number : r .answer .number ≡ settled m (load partial R text) .answer .number
+    same-number = ap (λ (x : LoadResult). x .answer .number) q
+
+    pub text-late : 1 ≤ r .answer .number → r .answer .number ≤ 2 → ⊥
+    text-late j k =
+        not-early (load partial R text) refl (subst (λ (n : ℕ). 1 ≤ n) same-number j) (subst (λ (n : ℕ). n ≤ 2) same-number k)
+
+    pub loads-text : tooShort m ≡ false → (t : Text) → textMeans t ≡ firstBad text → t ≡ Text.WellFormed
+        → LoadsTo partial nodes table m text r
+    loads-text e t f g = record {
+      bad = 0;
+      result = q ∙ sym (by-tests 0 partial nodes table m text false true e (well-formed-first text ∙ ap isNone (sym f ∙ ap textMeans g)));
+      starts = λ k. absurd (text-late (omega arith) (omega arith));
+    }

@@ -15,7 +15,7 @@ ghost use Rattle.spec.specs.Memory.{memory};
 ghost use Rattle.spec.specs.Load.{tableRoom, load, settled, LoadsTo};
 ghost use Rattle.laws.specs.Reads.{LongEnough};
 ghost use Rattle.builder.specs.Built.{Built, Kept, roomFor};
-ghost use Rattle.vocabulary.specs.Answers.{finishedAs, BuiltAs, leftBy};
+ghost use Rattle.vocabulary.specs.Answers.{answerOf, WorkKept, finishedAs, BuiltAs, leftBy};
 ghost use Rattle.vocabulary.specs.Settling.{loaded};
 use builder::Build;
 
@@ -174,8 +174,9 @@ fn load_text(
     answer
 }
 
-// A load of any bytes, in partial or full mode. Two things are loose: what the work memory holds afterwards is anything (its lengths stay:
-// a slice keeps its length by its type), and number 2's offset is any where an ill-formed sequence starts. `LoadsTo` fixes all else.
+// A load of any bytes, in partial or full mode. Two things are loose: what the work memory holds afterwards is anything, but after 1 and 2
+// what it was (and its lengths stay: a slice keeps its length by its type); number 2's offset is any where an ill-formed sequence starts.
+// `LoadsTo` fixes all else.
 pub fn from_vocab_str_mode(
     text: &[u8],
     partial: bool,
@@ -188,11 +189,13 @@ pub fn from_vocab_str_mode(
     used: &mut [u64],
     used_bases: &mut [u64],
 ) -> Load
-    ensures { λ r. ⌜ LoadsTo partial (length (now (nodes .entry)) / 6)
+    ensures loads { λ r. ⌜ LoadsTo partial (length (now (nodes .entry)) / 6)
         (tableRoom (length (now (table .entry))) (length (now (used .entry))) (length (now («used_bases» .entry))))
         (memory (now (single .entry)) (now (offsets .entry)) (now (blob .entry)) (now (roots .entry)) (now (table .entry)))
         (now (text .entry))
         (loaded r (memory (now (single .exit)) (now (offsets .exit)) (now (blob .exit)) (now (roots .exit)) (now (table .exit)))) ⌝ }
+    ensures work { λ r. ⌜ WorkKept (answerOf r .number) (now (nodes .entry)) (now (used .entry)) (now («used_bases» .entry))
+        (now (nodes .exit)) (now (used .exit)) (now («used_bases» .exit)) ⌝ }
 {
     if memory::too_short(single, offsets, roots) {
         return refused(1, Place::Nowhere);
@@ -229,11 +232,13 @@ pub fn from_vocab_str(
     used: &mut [u64],
     used_bases: &mut [u64],
 ) -> Load
-    ensures { λ r. ⌜ LoadsTo false (length (now (nodes .entry)) / 6)
+    ensures loads { λ r. ⌜ LoadsTo false (length (now (nodes .entry)) / 6)
         (tableRoom (length (now (table .entry))) (length (now (used .entry))) (length (now («used_bases» .entry))))
         (memory (now (single .entry)) (now (offsets .entry)) (now (blob .entry)) (now (roots .entry)) (now (table .entry)))
         (now (text .entry))
         (loaded r (memory (now (single .exit)) (now (offsets .exit)) (now (blob .exit)) (now (roots .exit)) (now (table .exit)))) ⌝ }
+    ensures work { λ r. ⌜ WorkKept (answerOf r .number) (now (nodes .entry)) (now (used .entry)) (now («used_bases» .entry))
+        (now (nodes .exit)) (now (used .exit)) (now («used_bases» .exit)) ⌝ }
 {
     from_vocab_str_mode(
         text,
@@ -261,11 +266,13 @@ pub fn from_vocab_str_partial(
     used: &mut [u64],
     used_bases: &mut [u64],
 ) -> Load
-    ensures { λ r. ⌜ LoadsTo true (length (now (nodes .entry)) / 6)
+    ensures loads { λ r. ⌜ LoadsTo true (length (now (nodes .entry)) / 6)
         (tableRoom (length (now (table .entry))) (length (now (used .entry))) (length (now («used_bases» .entry))))
         (memory (now (single .entry)) (now (offsets .entry)) (now (blob .entry)) (now (roots .entry)) (now (table .entry)))
         (now (text .entry))
         (loaded r (memory (now (single .exit)) (now (offsets .exit)) (now (blob .exit)) (now (roots .exit)) (now (table .exit)))) ⌝ }
+    ensures work { λ r. ⌜ WorkKept (answerOf r .number) (now (nodes .entry)) (now (used .entry)) (now («used_bases» .entry))
+        (now (nodes .exit)) (now (used .exit)) (now («used_bases» .exit)) ⌝ }
 {
     from_vocab_str_mode(
         text,

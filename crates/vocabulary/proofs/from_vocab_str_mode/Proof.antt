@@ -1,12 +1,12 @@
 -- `vocabulary::from_vocab_str_mode` meets its contract. Assumes nothing.
 use borrow.Author.Needs.{needs}
-use mathlib.Core.Path.{sym, _∙_}
+use mathlib.Core.Path.{refl, sym, _∙_}
 use Prim.Native.Nat.{_/_}
 use lib.ListN.{length}
 use Rattle.spec.specs.Memory.{memory}
 use Rattle.spec.specs.Load.{tableRoom}
 use Rattle.laws.specs.Reads.{long-enough}
-use Rattle.vocabulary.specs.Settling.{loads-short, loads-bad, loads-text}
+use Rattle.vocabulary.specs.Settling.{loads-short, loads-bad, text-late, loads-text}
 use Rattle.vocabulary.proofs.from_vocab_str_mode.Statement.{statement}
 use Rattle.vocabulary.proofs.from_vocab_str_mode.Tie as tie
 
@@ -28,10 +28,10 @@ same-length-3 c = search needs
 returns : tie.Need-returns
 returns c =
     let a = c .before .before .before .before .before .before .before .before .before .before .before .before .before .before .args in
-    loads-short (a .partial) (length (a .nodes .now) / 6) (tableRoom (length (a .table .now)) (length (a .used .now)) (length (a
-    .used-bases .now))) (memory (a .single .now) (a .offsets .now) (a .blob .now) (a .roots .now) (a .table .now)) (a .text .now)
-    (sym (c .before .before .too-short .ensures (a .blob .now) (a .table .now)) ∙ c .before .if1 .taken) _ (c .refused
-    .ensures)
+    let m = memory (a .single .now) (a .offsets .now) (a .blob .now) (a .roots .now) (a .table .now) in
+    let w = tableRoom (length (a .table .now)) (length (a .used .now)) (length (a .used-bases .now)) in
+    let e = sym (c .before .before .too-short .ensures (a .blob .now) (a .table .now)) ∙ c .before .if1 .taken in
+    (loads-short (a .partial) (length (a .nodes .now) / 6) w m (a .text .now) e _ (c .refused .ensures), (λ j k. (refl, refl, refl)))
 
 first-bad-requires : tie.Need-first-bad-requires
 first-bad-requires c κs = search needs
@@ -47,11 +47,9 @@ enum-told c = search needs
 
 load-text-requires : tie.Need-load-text-requires
 load-text-requires c κs =
-    let a = c .before .before .before .before .before .before .before .before .before .before .before .before .before .before .before
-    .before .before .before .before .before .before .before .before .before .args in
-    long-enough _ (sym (c .before .before .before .before .before .before .before
-    .before .before .before .before .before .too-short .ensures (a .blob .now) (a .table .now)) ∙ c .before .before .before .before .before .before .before .before
-    .before .before .before .if1 .left)
+    let f = c .before .before .before .before .before .before .before .before .before .before in
+    let a = f .before .before .before .before .before .before .before .before .before .before .before .before .before .before .args in
+    long-enough _ (sym (f .before .before .too-short .ensures (a .blob .now) (a .table .now)) ∙ f .before .if1 .left)
 
 same-length-4 : tie.Need-same-length-4
 same-length-4 c = search needs
@@ -64,13 +62,16 @@ same-length-6 c = search needs
 
 returns-2 : tie.Need-returns-2
 returns-2 c =
-    let a = c .before .before .before .before .before .before .before .before .before .before .before .before .before .before .before
-    .before .before .before .args in
-    loads-bad (a .partial) (length (a .nodes .now) / 6) (tableRoom (length (a .table .now)) (length (a .used .now)) (length (a
-    .used-bases .now))) (memory (a .single .now) (a .offsets .now) (a .blob .now) (a .roots .now) (a .table .now)) (a .text .now)
-    (sym (c .before .before .before .before .before .before .too-short .ensures (a .blob .now) (a .table .now)) ∙ c
-    .before .before .before .before .before .if1 .left) _ (c .before .before .before .before .first-bad .ensures) _ (c .before
-    .before .found .given .1) _ (c .refused2 .ensures)
+    let f = c .before .before .before .before in
+    let a = f .before .before .before .before .before .before .before .before .before .before .before .before .before .before .args in
+    let m = memory (a .single .now) (a .offsets .now) (a .blob .now) (a .roots .now) (a .table .now) in
+    let w = tableRoom (length (a .table .now)) (length (a .used .now)) (length (a .used-bases .now)) in
+    let e = sym (f .before .before .too-short .ensures (a .blob .now) (a .table .now)) ∙ f .before .if1 .left in (
+      loads-bad (a .partial) (length (a .nodes .now) / 6) w m (a .text .now) e _ (f .first-bad .ensures) _
+          (c .before .before .found .given .1) _
+          (c .refused2 .ensures),
+      (λ j k. (refl, refl, refl)),
+    )
 
 same-length-7 : tie.Need-same-length-7
 same-length-7 c = c .before .before .before .before .before .before .before .before .before .before .before .before .before .before
@@ -106,20 +107,17 @@ same-length-14 c = c .before .before .before .before .before .before .before .be
 
 returns-3 : tie.Need-returns-3
 returns-3 c =
-    let a = c .before .before .before .before .before .before .before .before .before .before .before .before .before .before .before
-    .before .before .before .before .before .before .before .before .before .before .before .before .before .before .before .before
-    .before .before .before .before .before .before .before .before .before .args in
-    loads-text (a .partial) (length (a .nodes .now) / 6) (tableRoom (length (a .table .now)) (length (a .used .now)) (length (a
-    .used-bases .now))) (memory (a .single .now) (a .offsets .now) (a .blob .now) (a .roots .now) (a .table .now)) (a .text .now)
-    (sym (c .before .before .before .before .before .before .before .before .before
-    .before .before .before .before .before .before .before .before .before .before .before .before .before .before .before .before
-    .before .before .before .too-short .ensures (a .blob .now) (a .table .now)) ∙ c .before .before .before .before .before .before .before .before .before .before
-    .before .before .before .before .before .before .before .before .before .before .before .before .before .before .before .before
-    .before .if1 .left) _ (c .before .before .before .before .before .before .before .before .before .before .before .before .before
-    .before .before .before .before .before .before .before .before .before .before .before .before .before .first-bad .ensures) (c
-    .before .before .before .before .before .before .before .before .before .before .before .before .before .before .before .before
-    .before .before .before .before .before .before .before .before .enum-told .given .1) _ (c .before .before .before .before
-    .before .before .before .before .before .before .before .before .before .before .before .load-text .ensures)
+    let l = c .before .before .before .before .before .before .before .before .before .before .before .before .before .before .before in
+    let t = l .before .before .before .before .before .before .before .before .before in
+    let f = t .before .before in
+    let a = f .before .before .before .before .before .before .before .before .before .before .before .before .before .before .args in
+    let m = memory (a .single .now) (a .offsets .now) (a .blob .now) (a .roots .now) (a .table .now) in
+    let w = tableRoom (length (a .table .now)) (length (a .used .now)) (length (a .used-bases .now)) in
+    let e = sym (f .before .before .too-short .ensures (a .blob .now) (a .table .now)) ∙ f .before .if1 .left in
+    let q = l .load-text .ensures in (
+      loads-text (a .partial) (length (a .nodes .now) / 6) w m (a .text .now) _ q e _ (f .first-bad .ensures) (t .enum-told .given .1),
+      (λ j k. absurd (text-late (a .partial) (length (a .nodes .now) / 6) w m (a .text .now) _ q j k)),
+    )
 
 pub from-vocab-str-mode-spec : {M : Type 1} → statement M
 from-vocab-str-mode-spec =

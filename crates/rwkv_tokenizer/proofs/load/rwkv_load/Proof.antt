@@ -1,5 +1,7 @@
 -- `rwkv_tokenizer::load::rwkv_load` meets its contract: what the call below it ensures, as numbers. Assumes nothing.
 use borrow.Author.Needs.{needs}
+use mathlib.Core.Path.{subst}
+use Prim.Native.Nat.{ℕ, _≤_}
 use Rattle.rwkv_tokenizer.proofs.load.rwkv_load.Statement.{statement}
 use Rattle.rwkv_tokenizer.proofs.load.rwkv_load.Tie as tie
 
@@ -43,13 +45,12 @@ same-length-8 c = c .before .before .before .before .before .before .before .bef
 
 returns : tie.Need-returns
 returns c =
-    record {
-      answer = _;
-      loads = c .before .before .before .before .before .before .before .before .before .before .before .before .before .before .before
-          .before .before .from-vocab-str-mode .ensures;
-      number = c .before .numbered .ensures .0;
-      values = c .before .numbered .ensures .1;
-    }
+    let l = c .before .before .before .before .before .before .before .before .before .before .before .before .before .before .before
+    .before .before .from-vocab-str-mode .ensures in
+    let e = c .before .numbered .ensures .0 in (
+      record { answer = _; loads = l .0; number = e; values = c .before .numbered .ensures .1 },
+      (λ j k. l .1 (subst (λ (n : ℕ). 1 ≤ n) e j) (subst (λ (n : ℕ). n ≤ 2) e k)),
+    )
 
 pub rwkv-load-spec : {M : Type 1} → statement M
 rwkv-load-spec =
