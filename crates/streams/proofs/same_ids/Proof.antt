@@ -1,7 +1,5 @@
 -- `streams::same_ids` is safe and ends. Assumes nothing.
-use Prim.Native.Nat.{ℕ, _-_, _≤_}
-use native.Mathlib.Omega.{arith}
-use lib.ListN.{length}
+use Prim.Native.Nat.{_-_, _≤_}
 use borrow.Author.Needs.{needs}
 use Rattle.streams.proofs.same_ids.Statement.{statement}
 use Rattle.streams.proofs.same_ids.Tie as tie

@@ -11,7 +11,7 @@ use base.Logic.{SProp, ent, emp, via, fst∗, id⊢}
 use base.Fml.{Lft, GName, Share, ftrue, flft, fobs, fbor}
 use prog.Memory.{Memory}
 use prog.Routine.{Routine}
-use prog.Wp.{Heap, Calls, Loops, WpFn, Tables}
+use prog.Wp.{Heap, Calls, Loops, WpFn}
 use ghost.Atoms.{Atoms}
 use contract.Monad.{Fun, fact}
 use contract.Running.{givenOf, tables, tablesOf}
