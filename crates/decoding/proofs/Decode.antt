@@ -1,16 +1,16 @@
--- The equations of decoding, a line for each way in which an id can go. Assumes nothing.
+-- The two passes of decoding: what is known of the ids passed, and how each pass ends. Assumes nothing.
 use mathlib.Core.Path.{_≡_, refl, ap, sym, _∙_}
 use mathlib.Core.Bool.{Bool, true, false}
 use mathlib.Core.List.{List, [], _∷_, _++_, append-assoc, append-nil}
 use Prim.Native.Nat.{ℕ, suc, _+_, _-_, _≤_, _<_, zero-le}
 use native.Mathlib.Omega.{arith}
 use native.Mathlib.Numerals.{add-one}
-use native.Mathlib.Nat.{not-suc-le-zero, sub-zero}
+use native.Mathlib.Nat.{sub-zero}
 use lib.Dec.{leb}
 use lib.ListN.{length, take, drop, getD, length-append, drop-of-length-le, take-append-drop}
 use lib.Seq.{take-suc, take-add, drop-cons}
 use borrow.Author.Count.{below-none, below-more}
-use borrow.Author.Tests.{le-leb, lt-leb, leb-true, leb-false}
+use borrow.Author.Tests.{leb-true, leb-false}
 use Rattle.spec.specs.Lists.{each, over}
 use lib.IntN.{ℤ}
 use Rattle.spec.specs.Memory.{Memory, memory, tooShort}
@@ -33,50 +33,27 @@ use Rattle.decoding.specs.declared.Decoded.{Decoded}
 use Rattle.decoding.specs.declared.Decoded.the-variants.{Whole, ShortMemory, Absent, Full}
 use Rattle.decoding.specs.Answers.{answerOf, takenOf, Answered}
 use Rattle.decoding.specs.Copy.{Placed}
+use Rattle.laws.specs.Grow.{each-append}
+use Rattle.laws.specs.Decoding.{decode-absent, decode-full, decode-more}
 use Rattle.decoding.specs.Span.{Present, present}
 use Rattle.decoding.specs.Measured.{tokens, Joined, Measured}
-
-module _ (m : Memory) (n k i : ℕ) (ids : List ℕ) where
-  pub decode-absent : lookup m i ≡ [] → decodeAt m n k (i ∷ ids) ≡ record { bytes = []; end = absent k i }
-  unfolding decodeAt
-  decode-absent e = rw (e, decodeAt)
-
-  pub decode-full : (l : List ℕ) → lookup m i ≡ l → 1 ≤ length l → n < length l
-      → decodeAt m n k (i ∷ ids) ≡ record { bytes = []; end = full k }
-  unfolding decodeAt
-  decode-full [] e h f = absurd (not-suc-le-zero h)
-  decode-full (b ∷ bs) e h f = rw (e, decodeAt, lt-leb _ _ f)
-
-  pub decode-fits : (l : List ℕ) → lookup m i ≡ l → 1 ≤ length l → length l ≤ n
-      → decodeAt m n k (i ∷ ids) ≡ decoded l (decodeAt m (n - length l) (suc k) ids)
-  unfolding decodeAt
-  decode-fits [] e h f = absurd (not-suc-le-zero h)
-  decode-fits (b ∷ bs) e h f = rw (e, decodeAt, le-leb _ _ f)
 
 -- ---- the ids joined
 
 module _ (f : ℕ → List ℕ) where
-  each-append : (xs ys : List ℕ) → each f (xs ++ ys) ≡ each f xs ++ each f ys
-  unfolding each
-  each-append [] ys = refl
-  each-append (x ∷ xs) ys = ap (λ (r : List ℕ). f x ++ r) (each-append xs ys) ∙ sym (append-assoc (f x) (each f xs) (each f ys))
-
-  each-one : (x : ℕ) → each f (x ∷ []) ≡ f x
-  unfolding each
-  each-one x = append-nil (f x)
-
   -- one id more
   pub each-more : (ids : List ℕ) (k : ℕ) → k < length ids → each f (take (k + 1) ids) ≡ each f (take k ids) ++ f (getD ids k 0)
+  unfolding each
   each-more ids k h =
-      rw (add-one, take-suc ids k 0 h) (each-append (take k ids) (getD ids k 0 ∷ []) ∙ ap (λ (r : List ℕ). each f (take k ids) ++ r)
-      (each-one (getD ids k 0)))
+      rw (add-one, take-suc ids k 0 h)
+      (each-append f (take k ids) (getD ids k 0 ∷ []) ∙ ap (λ (r : List ℕ). each f (take k ids) ++ r) (append-nil (f (getD ids k 0))))
 
   -- fewer ids have no more bytes
   pub each-fewer : (ids : List ℕ) (k n : ℕ) → k ≤ n → length (each f (take k ids)) ≤ length (each f (take n ids))
   each-fewer ids k n h =
       let e : n ≡ k + (n - k) = omega arith in
       let t : each f (take n ids) ≡ each f (take k ids) ++ each f (take (n - k) (drop k ids)) =
-      ap (λ (j : ℕ). each f (take j ids)) e ∙ ap (each f) (take-add k (n - k) ids) ∙ each-append (take k ids) (take (n - k) (drop k ids)) in
+      ap (λ (j : ℕ). each f (take j ids)) e ∙ ap (each f) (take-add k (n - k) ids) ∙ each-append f (take k ids) (take (n - k) (drop k ids)) in
       omega (arith, simp length-append at (ap length t))
 
 pub joined-none : (m : Memory) (ids : List ℕ) → Joined m ids 0 0
@@ -149,7 +126,7 @@ module _ (m : Memory) (room : ℕ) (ids : List ℕ) (k n : ℕ) (p : Passed m ro
             rest =
                 p .rest
                 ∙ ap (λ (l : List ℕ). decoded (each (lookup m) (take k ids)) (decodeAt m (room - n) k l)) (drop-cons ids k 0 h)
-                ∙ ap (decoded (each (lookup m) (take k ids))) (decode-fits m (room - n) k (getD ids k 0) (drop (suc k) ids) t refl some f)
+                ∙ ap (decoded (each (lookup m) (take k ids))) (decode-more m (room - n) k (getD ids k 0) (drop (suc k) ids) t refl some f)
                 ∙ rw (each-more (lookup m) ids k h, add-one, left, append-assoc);
           }
 
@@ -221,9 +198,9 @@ module _ (single : List ℤ) (offsets blob roots table : List ℕ) where
       (decode-absent _ n k i ids e)
   same-step n k i ids after (b ∷ bs) e true h =
       let fits = leb-true (length (b ∷ bs)) n h in
-      decode-fits _ n k i ids (b ∷ bs) (ap (λ (f : ℕ → List ℕ). f i) lookup-same ∙ e) (omega arith) fits
+      decode-more _ n k i ids (b ∷ bs) (ap (λ (f : ℕ → List ℕ). f i) lookup-same ∙ e) (omega arith) fits
       ∙ ap (decoded (b ∷ bs)) (after (n - length (b ∷ bs)) (suc k))
-      ∙ sym (decode-fits _ n k i ids (b ∷ bs) e (omega arith) fits)
+      ∙ sym (decode-more _ n k i ids (b ∷ bs) e (omega arith) fits)
   same-step n k i ids after (b ∷ bs) e false h =
       let over = leb-false (length (b ∷ bs)) n h in
       decode-full _ n k i ids (b ∷ bs) (ap (λ (f : ℕ → List ℕ). f i) lookup-same ∙ e) (omega arith) over
