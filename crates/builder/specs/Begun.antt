@@ -1,22 +1,19 @@
 -- Emptied memory holds no token, and it is the same from whatever a push left. Assumes nothing.
-use mathlib.Core.Path.{_≡_, refl, sym, ap, ap₂, _∙_, subst}
+use mathlib.Core.Path.{_≡_, refl, sym, ap, _∙_, subst}
 use mathlib.Core.Logic.{inr}
-use mathlib.Core.List.{List, [], _∷_, _++_, List·Memᴰ·not-nil as not-nil}
-use Prim.Native.Nat.{ℕ, _+_, _-_, _≤_, _<_}
+use mathlib.Core.List.{List, [], _∷_}
+use Prim.Native.Nat.{ℕ, _-_, _≤_, _<_}
 use native.Mathlib.Omega.{arith}
 use lib.IntN.{ℤ, pos, negsuc}
 use lib.ListN.{length, take, drop, getD, replicate, length-append, length-replicate, getD-replicate, List·getD-append}
-use lib.Seq.{length-front}
-use Rattle.spec.specs.Lists.{each, fold, upFrom, over}
-use Rattle.spec.specs.Token.{Token, idOf}
+use Rattle.spec.specs.Lists.{each, fold, over}
+use Rattle.spec.specs.Token.{idOf}
 use Rattle.spec.specs.Trie.{nodes, nodeCount}
-use Rattle.spec.specs.Valid.{Valid}
 use Rattle.spec.specs.Memory.{Memory, memory, idOrNone, lengthBefore, singleList, blobBytes, padded, emptied}
 use Rattle.spec.specs.Load.{lastId}
-use Rattle.laws.specs.Reads.{LongEnough}
 use Rattle.loading.specs.Accepted.{none-held}
 use Rattle.trie.specs.Grow.{stands-none}
-use Rattle.builder.specs.Built.{Built, Kept}
+use Rattle.builder.specs.Built.{Built}
 use Rattle.builder.specs.Cells.{by-index}
 use Rattle.builder.specs.declared.Build.{Build}
 

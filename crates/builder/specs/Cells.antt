@@ -4,7 +4,7 @@ use mathlib.Core.Path.{_≡_, refl, sym, ap, ap₂, _∙_}
 use mathlib.Core.List.{List, [], _∷_, _++_}
 use Prim.Native.Nat.{ℕ, zero, suc, _+_, _-_, _≤_, _<_}
 use native.Mathlib.Omega.{arith}
-use lib.ListN.{length, take, drop, getD, set, replicate, length-append, length-set, length-replicate, getD-replicate}
+use lib.ListN.{length, take, drop, getD, set, replicate, length-append, length-set}
 use lib.Seq.{sets, sets-eq, getD-set-same, getD-set-other, drop-set-lt, take-at, drop-at, drop-drop, length-take-le, getD-take, ext-getD}
 use Rattle.spec.specs.Lists.{upFrom}
 use Rattle.spec.specs.Memory.{padded}

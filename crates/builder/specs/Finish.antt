@@ -1,29 +1,28 @@
 -- The end of a build: the theorem that `finish` cites, and its parts. Assumes nothing.
-use mathlib.Core.Path.{_≡_, refl, sym, ap, ap₂, _∙_, subst}
-use mathlib.Core.Logic.{_⊎_, inl, inr}
-use mathlib.Core.Bool.{Bool, true, false, not, cond}
+use mathlib.Core.Path.{_≡_, refl, sym, ap, ap₂, _∙_}
+use mathlib.Core.Logic.{inl, inr}
+use mathlib.Core.Bool.{Bool, true, false, cond}
 use mathlib.Core.Option.{Option, none, some}
 use mathlib.Core.List.{List, [], _∷_, _++_, List·Memᴰ as Mem}
 use Prim.Native.Nat.{ℕ, zero, suc, _+_, _-_, _≤_, _<_}
 use native.Mathlib.Omega.{arith}
-use lib.IntN.{ℤ, pos}
+use lib.IntN.{ℤ}
 use lib.Dec.{leb}
-use lib.ListN.{length, take, drop, getD, replicate, length-append, length-replicate, getD-replicate, take-append-drop}
+use lib.ListN.{length, take, drop, getD, replicate, length-replicate, getD-replicate, take-append-drop}
 use lib.Seq.{length-sets}
-use borrow.Author.Tests.{le-leb, lt-leb, leb-true, leb-false}
+use borrow.Author.Tests.{leb-true, leb-false}
 use Rattle.spec.specs.Lists.{over, upFrom}
-use Rattle.spec.specs.Token.{Token, idOf, seen}
+use Rattle.spec.specs.Token.{Token}
 use Rattle.spec.specs.Layout.{tableWords}
-use Rattle.spec.specs.Valid.{Valid}
-use Rattle.spec.specs.Memory.{memory, lengthBefore, singleList, offsetList, blobBytes, rootList, tableList, padded}
-use Rattle.spec.specs.Load.{Room, tableRoom, lastId, nowhere, byte, Outcome, accepted, refused, missing, demanded, finish}
+use Rattle.spec.specs.Memory.{memory, lengthBefore, singleList, offsetList}
+use Rattle.spec.specs.Load.{Room, tableRoom, nowhere, byte, Outcome, accepted, refused, missing, demanded, finish}
 use Rattle.laws.specs.Tests.{Tested, either}
 use Rattle.laws.specs.Reads.{offset-length}
 use Rattle.laws.specs.Spans.{before-all}
 use Rattle.packing.specs.Answer.{capacity, answerFor, PackedAs}
 use Rattle.packing.specs.declared.Packed.{Packed}
 use Rattle.packing.specs.declared.Packed.the-variants.{Words, NoRoom}
-use Rattle.builder.specs.Built.{Built, Kept, setOffsets, isTaken, missingOn, missingOf, FinishedAs}
+use Rattle.builder.specs.Built.{Built, Kept, setOffsets, missingOn, missingOf, FinishedAs}
 use Rattle.builder.specs.Cells.{run-before, run-in, run-behind, by-index}
 use Rattle.builder.specs.Grow.{taken-seen, last-most}
 use Rattle.builder.specs.declared.Build.{Build}

@@ -5,34 +5,32 @@ use mathlib.Core.Bool.{Bool, true, false, not, cond}
 use mathlib.Core.List.{List, [], _∷_, _++_, append-nil, List·Memᴰ as Mem, List·Memᴰ·head as here, List·Memᴰ·tail as there, List·Memᴰ·not-nil as not-nil}
 use Prim.Native.Nat.{ℕ, zero, suc, _+_, _-_, _*_, _^_, _≤_, _<_, min}
 use native.Mathlib.Omega.{arith}
-use lib.IntN.{ℤ, pos, negsuc}
+use lib.IntN.{ℤ, pos}
 use lib.Dec.{eqb, ltb, leb}
 use lib.ListN.{length, take, drop, getD, set, replicate, length-append, length-set, length-replicate, getD-replicate}
-use lib.Seq.{sets, length-sets, getD-set-same, getD-set-other, drop-set-lt, take-at, length-take-le}
-use borrow.Author.Tests.{eqb-true, eqb-false, eq-eqb, ne-eqb, lt-ltb, le-ltb, le-leb, lt-leb, leb-true, leb-false, ltb-true, ltb-false}
-use Rattle.spec.specs.Lists.{each, fold, same, Bytes, upFrom}
-use Rattle.spec.specs.Check.{Check, pass, refuse, need}
+use lib.Seq.{sets, length-sets, getD-set-same, getD-set-other, drop-set-lt}
+use borrow.Author.Tests.{eqb-true, eqb-false, eq-eqb, ne-eqb, le-ltb, le-leb, lt-leb, leb-true, leb-false}
+use Rattle.spec.specs.Lists.{each, fold, same, Bytes}
+use Rattle.spec.specs.Check.{pass, refuse, need}
 use Rattle.spec.specs.Token.{Token, idOf, seen}
 use Rattle.spec.specs.Trie.{nodes, nodeCount}
 use Rattle.spec.specs.Valid.{Rising, Valid}
 use Rattle.spec.specs.Memory.{idOrNone, lengthBefore, singleList, blobBytes, padded}
 use Rattle.spec.specs.Load.{Room, admit, lastId}
 use Rattle.laws.specs.Tests.{Tested, either, no-true, same-eq, same-refl}
-use Rattle.laws.specs.Tokens.{id-low}
 use Rattle.laws.specs.Grow.{each-append, id-snoc}
 use Rattle.laws.specs.Reads.{listed}
 use Rattle.laws.specs.Spans.{before-all}
-use Rattle.laws.specs.Bounds.{nodeCount-small, blob-small, tokens-few}
+use Rattle.laws.specs.Bounds.{nodeCount-small}
 use Rattle.loading.specs.Accepted.{Reads, valid-snoc}
 use Rattle.trie.specs.Run.{room}
 use Rattle.trie.specs.Insertion.{State, rooted, after, After, insertOn, rootMade}
 use Rattle.trie.specs.Turns.{yes-case, no-case}
-use Rattle.trie.specs.Chains.{snoc-mem}
 use Rattle.trie.specs.Stands.{Stands, Grown, answerFor}
 use Rattle.trie.specs.Grow.{seen-id, stands-one, nodes-one}
 use Rattle.trie.specs.declared.Inserted.{Inserted}
 use Rattle.trie.specs.declared.Inserted.the-variants.{Duplicate, NoRoom, Made}
-use Rattle.builder.specs.Built.{Built, Kept, Small, roomFor, PushedAs, isTaken, setSingle, setOffsets}
+use Rattle.builder.specs.Built.{Built, Kept, roomFor, PushedAs, isTaken, setSingle, setOffsets}
 use Rattle.builder.specs.Cells.{run-before, run-in, run-behind, pad-more, by-index}
 use Rattle.builder.specs.declared.Build.{Build}
 use Rattle.builder.specs.declared.Pushed.{Pushed}

@@ -1,21 +1,20 @@
 -- The tokens of an accepted text are a valid vocabulary, and what the partial mode changes. Assumes nothing.
 use mathlib.Core.Path.{_≡_, refl, sym, ap, _∙_, subst}
 use mathlib.Core.Logic.{_⊎_, inl, inr}
-use mathlib.Core.Bool.{Bool, true, false, not, cond, false≢true, true≢false}
+use mathlib.Core.Bool.{Bool, true, false, cond}
 use mathlib.Core.Option.{Option, none, some}
-use mathlib.Core.List.{List, [], _∷_, _++_, List·Memᴰ, List·Memᴰ·head, List·Memᴰ·tail, List·Memᴰ·not-nil, List·Memᴰ·append-cases}
+use mathlib.Core.List.{List, [], _∷_, _++_, List·Memᴰ, List·Memᴰ·not-nil, List·Memᴰ·append-cases}
 use mathlib.Core.List.{List·Memᴰ·eq-of-singleton}
-use Prim.Native.Nat.{ℕ, zero, suc, _+_, _-_, _^_, _≤_, _<_}
+use Prim.Native.Nat.{ℕ, zero, suc, _+_, _≤_, _<_}
 use native.Mathlib.Omega.{arith}
-use lib.Dec.{eqb, leb, ltb}
+use lib.Dec.{eqb, leb}
 use lib.ListN.{length}
 use borrow.Author.Tests.{leb-true, eqb-true, eqb-false, ltb-false, not-true}
-use Rattle.spec.specs.Lists.{any, each, same, Bytes}
-use Rattle.spec.specs.Check.{Check, pass, refuse, andThen, given, need}
-use Rattle.spec.specs.Digits.{digits}
-use Rattle.spec.specs.Line.{lines, Fields, fields}
+use Rattle.spec.specs.Lists.{each, same, Bytes}
+use Rattle.spec.specs.Check.{Check, pass, refuse}
+use Rattle.spec.specs.Line.{lines, Fields}
 use Rattle.spec.specs.Literal.{literal}
-use Rattle.spec.specs.Token.{Token, seen, Full}
+use Rattle.spec.specs.Token.{Token, seen}
 use Rattle.spec.specs.Trie.{nodeCount}
 use Rattle.spec.specs.Layout.{tableWords}
 use Rattle.spec.specs.Valid.{Rising, Distinct, Valid}
@@ -23,7 +22,7 @@ use Rattle.spec.specs.Memory.{blobBytes}
 use Rattle.spec.specs.Load.{Room, idRule, lengthRule, readToken, readFields, readLine, admit, lastId, takeLine, Place, nowhere, line}
 use Rattle.spec.specs.Load.{byte, Outcome, accepted, refused, missing, demanded, finish, takeLines, load}
 use Rattle.spec.specs.Theorems.{LoadsValid, FullIsFull, PartialDrops20}
-use Rattle.laws.specs.Tests.{either, any-mem, any-find, no-true, neither, same-refl, same-eq, clash}
+use Rattle.laws.specs.Tests.{either, neither, same-refl, clash}
 use Rattle.loading.specs.Checks.{need-pass, given-pass, then-pass}
 use Rattle.loading.specs.ByteStrings.{AllBytes, lines-bytes, fields-bytes, literal-bytes}
 

@@ -1,22 +1,21 @@
 -- The parts of a byte string are byte strings: lines, fields, and what a literal stands for. Assumes nothing.
 use mathlib.Core.Path.{_≡_, refl, sym, ap, _∙_, subst}
-use mathlib.Core.Logic.{_⊎_, inl, inr}
-use mathlib.Core.Bool.{Bool, true, false, not, _&&_, _||_, cond, false≢true}
+use mathlib.Core.Bool.{Bool, true, false, not, _&&_, _||_, cond}
 use mathlib.Core.Option.{Option, none, some, bind}
-use mathlib.Core.List.{List, [], _∷_, _++_, List·Memᴰ, List·Memᴰ·head, List·Memᴰ·tail}
+use mathlib.Core.List.{List, [], _∷_, _++_}
 use Prim.Native.Nat.{ℕ, zero, suc, _+_, _-_, _*_, _/_, _%_, _^_, _≤_, _<_}
 use native.Mathlib.Omega.{arith}
 use native.Mathlib.Nat.{mul-le-mul-right, mul-assoc, pow-succ'}
 use lib.Dec.{eqb, leb, ltb}
 use lib.ListN.{length, take, drop, getD}
-use borrow.Author.Tests.{leb-true, leb-false, ltb-true}
+use borrow.Author.Tests.{leb-true, ltb-true}
 use Rattle.spec.specs.Lists.{all, Bytes}
-use Rattle.spec.specs.Check.{Check, pass, refuse, given, need}
-use Rattle.spec.specs.Utf8.{Range, _to_, within, utf8Of, blank}
+use Rattle.spec.specs.Check.{pass, given, need}
+use Rattle.spec.specs.Utf8.{_to_, within, utf8Of, blank}
 use Rattle.spec.specs.Digits.{hexDigit, hexAfter, hexRun}
 use Rattle.spec.specs.Line.{lf, cr, lessCR, withLF, lastLine, linesAfter, lines, Fields, firstSpace, lastSpace, parted, placed, fields}
-use Rattle.spec.specs.Literal.{Piece, letters, lookUp, byteEscape, pointEscape, escaped, escape, plain, Read, bad, put, piece, closed}
-use Rattle.spec.specs.Literal.{pieceAt, inside, quoted, readWith, whole, read, literal}
+use Rattle.spec.specs.Literal.{Piece, letters, lookUp, byteEscape, pointEscape, escaped, escape, plain, bad, piece, closed}
+use Rattle.spec.specs.Literal.{pieceAt, inside, quoted, readWith, read, literal}
 use Rattle.laws.specs.Tests.{and-l, and-r}
 use Rattle.loading.specs.Checks.{need-pass, given-pass}
 

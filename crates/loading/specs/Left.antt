@@ -2,17 +2,14 @@
 use mathlib.Core.Path.{_≡_, refl, sym, ap, ap₂, _∙_, subst}
 use mathlib.Core.Bool.{Bool, true, false, not, cond}
 use mathlib.Core.Option.{Option, none, some}
-use mathlib.Core.List.{List, [], _∷_, _++_}
-use Prim.Native.Nat.{ℕ, zero, suc, _+_, _-_, _^_, _≤_}
+use mathlib.Core.List.{List, [], _∷_}
+use Prim.Native.Nat.{ℕ, suc, _≤_}
 use native.Mathlib.Omega.{arith}
-use lib.Dec.{eqb, leb, ltb}
+use lib.Dec.{leb}
 use lib.ListN.{length}
-use Rattle.spec.specs.Lists.{Bytes}
 use Rattle.spec.specs.Check.{Check, pass, refuse, given, need}
 use Rattle.spec.specs.Utf8.{wellFormed, blank}
-use Rattle.spec.specs.Digits.{digits}
 use Rattle.spec.specs.Line.{lines, Fields, firstSpace, lastSpace, parted, placed, fields}
-use Rattle.spec.specs.Literal.{literal}
 use Rattle.spec.specs.Token.{Token}
 use Rattle.spec.specs.Layout.{tableWords}
 use Rattle.spec.specs.Memory.{Memory, tooShort, memoryOf, Loaded}

@@ -1,9 +1,9 @@
 -- What each test of a line says of the whole reading. Assumes nothing.
-use mathlib.Core.Path.{_≡_, refl, sym, ap, ap₂, _∙_, subst}
+use mathlib.Core.Path.{_≡_, refl, sym, ap, _∙_}
 use mathlib.Core.Bool.{Bool, true, false, cond}
 use mathlib.Core.Option.{Option, none, some, Option·map}
-use mathlib.Core.List.{List, [], _∷_, _++_}
-use Prim.Native.Nat.{ℕ, zero, suc, _+_, _-_, _^_, _≤_, _<_}
+use mathlib.Core.List.{List, _++_}
+use Prim.Native.Nat.{ℕ, zero, suc, _+_, _-_, _≤_, _<_}
 use native.Mathlib.Omega.{arith}
 use lib.Dec.{leb}
 use lib.ListN.{length, take, drop, length-drop}
@@ -12,7 +12,7 @@ use borrow.Author.Tests.{le-leb, lt-leb, leb-true}
 use Rattle.spec.specs.Check.{Check, pass, refuse, andThen, given, need}
 use Rattle.spec.specs.Digits.{digits}
 use Rattle.spec.specs.Line.{Fields, fields, parted}
-use Rattle.spec.specs.Literal.{Read, read, literal, whole}
+use Rattle.spec.specs.Literal.{read, literal}
 use Rattle.spec.specs.Token.{Token}
 use Rattle.spec.specs.Load.{idRule, lengthRule, readToken, readFields, readLine}
 use Rattle.loading.specs.Checks.{need-pass}

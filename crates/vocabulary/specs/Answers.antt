@@ -22,7 +22,6 @@ use Rattle.vocabulary.specs.declared.lines.Lines.{Lines}
 use Rattle.vocabulary.specs.declared.lines.Lines.the-variants as Lines
 use Rattle.vocabulary.specs.declared.Place.{Place}
 use Rattle.vocabulary.specs.declared.Place.the-variants as Place
-use Rattle.vocabulary.specs.declared.LoadRefusal.{LoadRefusal}
 use Rattle.vocabulary.specs.declared.Counts.{Counts}
 use Rattle.vocabulary.specs.declared.Load.{Load}
 use Rattle.vocabulary.specs.declared.Load.the-variants as Load

@@ -3,20 +3,20 @@
 use mathlib.Core.Path.{_≡_, refl, sym, ap, ap₂, _∙_, subst}
 use mathlib.Core.Logic.{_⊎_, inl, inr}
 use mathlib.Core.Bool.{Bool, true, false}
-use mathlib.Core.Option.{Option, none, some}
-use mathlib.Core.List.{List, [], _∷_, _++_}
-use Prim.Native.Nat.{ℕ, suc, _+_, _-_, _/_, _≤_, _<_}
+use mathlib.Core.Option.{some}
+use mathlib.Core.List.{List, [], _++_}
+use Prim.Native.Nat.{ℕ, _+_, _≤_, _<_}
 use native.Mathlib.Omega.{arith}
 use lib.IntN.{ℤ, negsuc}
-use lib.ListN.{length, take, drop, replicate, length-replicate}
+use lib.ListN.{length, drop, replicate, length-replicate}
 use lib.Seq.{drop-at}
 use Rattle.spec.specs.Lists.{over}
-use Rattle.spec.specs.Utf8.{wellFormed, illFormedAt, firstBad, isNone, well-formed-first, first-bad-ill}
+use Rattle.spec.specs.Utf8.{wellFormed, firstBad, isNone, well-formed-first, first-bad-ill}
 use Rattle.spec.specs.Token.{Token}
 use Rattle.spec.specs.Trie.{nodeCount}
 use Rattle.spec.specs.Memory.{Memory, memory, tooShort, singleList, offsetList, blobBytes, rootList, tableList, padded, memoryOf, emptied}
-use Rattle.spec.specs.Load.{Room, tableRoom, nowhere, offset, Outcome, accepted, refused, finish, load, countsOf}
-use Rattle.spec.specs.Load.{LoadResult, turnedDown, settled, loadOn, LoadsTo}
+use Rattle.spec.specs.Load.{Room, tableRoom, nowhere, Outcome, accepted, refused, finish, load, countsOf}
+use Rattle.spec.specs.Load.{LoadResult, turnedDown, settled, LoadsTo}
 use Rattle.spec.specs.Load as spec
 use Rattle.trie.specs.Run.{room}
 use Rattle.laws.specs.Reads.{single-length, offset-length, root-length}
@@ -24,17 +24,16 @@ use Rattle.loading.specs.Left.{load-refused, by-tests}
 use Rattle.utf8.specs.Means.{textMeans}
 use Rattle.utf8.specs.declared.Text.{Text}
 use Rattle.utf8.specs.declared.Text.the-variants as Text
-use Rattle.builder.specs.Built.{Built, Kept, roomFor, FinishedAs}
+use Rattle.builder.specs.Built.{Built, Kept, FinishedAs}
 use Rattle.builder.specs.Finish.{over-of, same-memory}
 use Rattle.builder.specs.Grow.{count-more}
 use Rattle.builder.specs.declared.Build.{Build}
 use Rattle.builder.specs.declared.Finished.{Finished}
 use Rattle.builder.specs.declared.Finished.the-variants as Finished
-use Rattle.vocabulary.specs.Answers.{placeOf, countOf, answerOf, finishedAs, BuiltAs, leftBy, LinesAs}
+use Rattle.vocabulary.specs.Answers.{placeOf, answerOf, finishedAs, BuiltAs, leftBy, LinesAs}
 use Rattle.vocabulary.specs.declared.lines.Lines.{Lines}
 use Rattle.vocabulary.specs.declared.lines.Lines.the-variants as Lines
 use Rattle.vocabulary.specs.declared.Place.the-variants as Place
-use Rattle.vocabulary.specs.declared.LoadRefusal.{LoadRefusal}
 use Rattle.vocabulary.specs.declared.Load.{Load}
 use Rattle.vocabulary.specs.declared.Load.the-variants as Load
 

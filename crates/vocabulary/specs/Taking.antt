@@ -1,6 +1,6 @@
 -- The walk over a text's lines: what is left of the text, taken from the tokens so far, is what the whole text gives. Assumes nothing.
 use mathlib.Core.Path.{_≡_, refl, sym, ap, ap₂, _∙_, subst}
-use mathlib.Core.Bool.{Bool, true, false}
+use mathlib.Core.Bool.{Bool}
 use mathlib.Core.Option.{Option, none, some}
 use mathlib.Core.List.{List, [], _∷_, _++_}
 use Prim.Native.Nat.{ℕ, suc, _+_, _-_, _/_, _≤_, _<_}
@@ -9,9 +9,9 @@ use lib.IntN.{ℤ}
 use lib.ListN.{length, take, drop, length-drop}
 use lib.Seq.{drop-drop}
 use Rattle.spec.specs.Check.{Check, pass, refuse, andThen}
-use Rattle.spec.specs.Line.{First, lines, nextLine, turn, lines-next, Stays, nextLine-stays}
+use Rattle.spec.specs.Line.{First, lines, nextLine, turn, lines-next, nextLine-stays}
 use Rattle.spec.specs.Token.{Token}
-use Rattle.spec.specs.Load.{Room, lastId, readLine, admit, takeLine, line, Outcome, refused, finish, takeLines, load}
+use Rattle.spec.specs.Load.{Room, lastId, readLine, admit, takeLine, line, refused, finish, takeLines, load}
 use Rattle.laws.specs.Bounds.{tokens-few, nodeCount-small, blob-small}
 use Rattle.builder.specs.Built.{Built, Kept, Small, roomFor, PushedAs}
 use Rattle.builder.specs.Grow.{count-more}

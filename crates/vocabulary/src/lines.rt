@@ -1,9 +1,7 @@
 // The lines of a vocabulary text, taken one by one: each states a token, and the builder takes it.
-ghost use mathlib.Core.Path.{_≡_};
 ghost use mathlib.Core.Bool.{Bool};
 ghost use mathlib.Core.List.{List, []};
 ghost use Prim.Native.Nat.{ℕ};
-ghost use lib.ListN.{length};
 ghost use Rattle.spec.specs.Token.{Token};
 ghost use Rattle.spec.specs.Memory.{memory};
 ghost use Rattle.laws.specs.Reads.{LongEnough};

@@ -1,6 +1,6 @@
 -- `builder::counted` meets its contract. Assumes nothing.
 use borrow.Author.Needs.{needs}
-use mathlib.Core.Path.{_≡_, ap}
+use mathlib.Core.Path.{ap}
 use Prim.Native.Nat.{ℕ, _+_}
 use Rattle.builder.specs.declared.Build.{Build}
 use Rattle.builder.proofs.counted.Statement.{statement}

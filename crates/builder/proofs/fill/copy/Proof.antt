@@ -1,7 +1,7 @@
 -- `builder::fill::copy` meets its contract. The loop's invariant: the stores that are left make what all of them make. The measure is
 -- how many are left. Assumes nothing.
 use mathlib.Core.Path.{_≡_, refl, _∙_}
-use Prim.Native.Nat.{_+_, _-_, _≤_}
+use Prim.Native.Nat.{_+_, _-_}
 use native.Mathlib.Omega.{arith}
 use lib.ListN.{length, drop, length-set}
 use lib.Seq.{sets}

@@ -1,6 +1,6 @@
 -- `builder::fill::fill_u32` meets its contract. The loop's invariant: the stores that are left make what all of them make. The measure is
 -- how many are left. Assumes nothing.
-use mathlib.Core.Path.{_≡_, refl, sym, _∙_}
+use mathlib.Core.Path.{_≡_, refl, _∙_}
 use Prim.Native.Nat.{_+_, _-_, _≤_}
 use native.Mathlib.Omega.{arith}
 use lib.ListN.{length, drop, replicate, length-set}
