@@ -53,7 +53,8 @@ module _ (f : ℕ → List ℕ) where
   each-fewer ids k n h =
       let e : n ≡ k + (n - k) = omega arith in
       let t : each f (take n ids) ≡ each f (take k ids) ++ each f (take (n - k) (drop k ids)) =
-      ap (λ (j : ℕ). each f (take j ids)) e ∙ ap (each f) (take-add k (n - k) ids) ∙ each-append f (take k ids) (take (n - k) (drop k ids)) in
+      ap (λ (j : ℕ). each f (take j ids)) e ∙ ap (each f) (take-add k (n - k) ids)
+      ∙ each-append f (take k ids) (take (n - k) (drop k ids)) in
       omega (arith, simp length-append at (ap length t))
 
 pub joined-none : (m : Memory) (ids : List ℕ) → Joined m ids 0 0
