@@ -1,10 +1,10 @@
 // Decodings over small memory, with every cell of the output shown.
-use crate::write;
-use crate::write_bytes;
-use crate::write_number;
+use cases::read_ids;
+use cases::write;
+use cases::write_bytes;
+use cases::write_number;
 use decoding::Decoded;
 ghost use Prim.Native.Nat.{_≤_};
-ghost use lib.ListN.{length};
 
 // A decoding's answer.
 fn write_decoded(decoded: Decoded) {
@@ -77,25 +77,6 @@ fn decode_each(kind: u8, ids: &[u32], out: &mut [u8]) {
         i += 1;
     }
     show(kind, &offsets, &blob, ids, out);
-}
-
-// The ids that bytes spell, three to an id; how many.
-fn read_ids(bytes: &[u8], ids: &mut [u32]) -> usize
-    ensures { λ r. ⌜ r ≤ length (now (ids .entry)) ⌝ }
-{
-    let mut n = 0;
-    while n < ids.len() {
-        if bytes.len() / 3 <= n {
-            return n;
-        }
-        ids[n] = id_of(bytes[3 * n], bytes[3 * n + 1], bytes[3 * n + 2]);
-        n += 1;
-    }
-    n
-}
-
-fn id_of(high: u8, middle: u8, low: u8) -> u32 {
-    (high as u32) * 65536 + (middle as u32) * 256 + (low as u32)
 }
 
 // Over V (memory 0), over V with one cell of the offsets too few (1), or over the memory of single bytes.

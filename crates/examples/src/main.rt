@@ -2,40 +2,18 @@
 // a letter for what is asked, a space, and bytes in hexadecimal: L a literal, F the fields of a vocabulary line, T the lines of a text,
 // I an id, N a length, U the beginning of a byte string that is UTF-8, S the same for a beginning and each last byte; D, X and Y ids to
 // decode to bytes, text and lossy text. `cases.py` makes the cases and, by Python's own means, the answers.
+use cases::unhex;
+use cases::write;
+use cases::write_bytes;
+use cases::write_number;
 use libc::STDIN_FILENO;
-use libc::STDOUT_FILENO;
 use line::Fields;
 use line::NextLine;
 use literal::Literal;
 use literal::Number;
-ghost use Prim.Native.Nat.{_+_, _<_, _≤_};
-ghost use lib.ListN.{length};
 
 mod decode;
 mod runs;
-
-pub fn write(text: &[u8]) {
-    io::write_all(STDOUT_FILENO, text);
-}
-
-fn wide(b: u8) -> u64 {
-    b as u64
-}
-
-// Bytes in hexadecimal, in brackets.
-pub fn write_bytes(bytes: &[u8]) {
-    write(b"[");
-    let mut i = 0;
-    while i < bytes.len() {
-        io::print_hex(STDOUT_FILENO, wide(bytes[i]), 2);
-        i += 1;
-    }
-    write(b"]");
-}
-
-pub fn write_number(n: u64) {
-    io::print_decimal(STDOUT_FILENO, n);
-}
 
 // What a literal stands for, of at most 64 bytes.
 fn literal_case(text: &[u8]) {
@@ -99,32 +77,6 @@ fn answer(kind: u8, bytes: &[u8]) {
         b'D' | b'X' | b'Y' => decode::decode_case(kind, bytes),
         _ => write(b"?"),
     }
-}
-
-// The byte that two hexadecimal digits spell, 0 if they do not.
-fn byte_of(high: u8, low: u8) -> u8 {
-    let Number::Value(h) = literal::hex_digit(high) else {
-        return 0;
-    };
-    let Number::Value(l) = literal::hex_digit(low) else {
-        return 0;
-    };
-    (h % 16 * 16 + l % 16) as u8
-}
-
-// The bytes that `text` spells in hexadecimal go to `out`, as far as they fit; how many.
-fn unhex(text: &[u8], out: &mut [u8]) -> usize
-    ensures { λ r. ⌜ r ≤ length (now (out .entry)) ⌝ }
-{
-    let mut n = 0;
-    while n < out.len() {
-        if text.len() / 2 <= n {
-            return n;
-        }
-        out[n] = byte_of(text[2 * n], text[2 * n + 1]);
-        n += 1;
-    }
-    n
 }
 
 fn one_case(case: &[u8]) {

@@ -1,6 +1,6 @@
 // UTF-8 at its edges: how many bytes are good, and the same for a beginning and each last byte.
-use crate::write_bytes;
-use crate::write_number;
+use cases::write_bytes;
+use cases::write_number;
 use utf8::Text;
 ghost use Prim.Native.Nat.{_≤_};
 

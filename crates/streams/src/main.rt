@@ -1,20 +1,15 @@
 // Runs streams over the memory of document 01's vocabulary V with one token more, 255 times x, and writes what each call answers: the
 // document's examples, a stream that holds 254 bytes, and calls that are refused. Then every string of seven letters a to d and spaces,
 // cut into pieces at its spaces: how many give other ids or another refusal than the letters as a whole.
+use cases::write;
+use cases::write_ids;
+use cases::write_number;
 use encoding::Encoded;
 use libc::STDOUT_FILENO;
 use stream::Answer;
 use stream::Stream;
 ghost use Prim.Native.Nat.{_≤_};
 ghost use lib.ListN.{length};
-
-fn write(text: &[u8]) {
-    io::write_all(STDOUT_FILENO, text);
-}
-
-fn write_number(n: u64) {
-    io::print_decimal(STDOUT_FILENO, n);
-}
 
 fn wide(n: u32) -> u64 {
     n as u64
@@ -89,19 +84,6 @@ fn whole_outcome(encoded: Encoded) -> Outcome {
         },
         Encoded::ShortMemory => no_ids(1),
         Encoded::Full { count, offset: _ } => no_ids(23),
-    }
-}
-
-// The first count ids.
-fn write_ids(ids: &[u32], count: usize) {
-    let mut i = 0;
-    while i < ids.len() {
-        if count <= i {
-            return;
-        }
-        write(b" ");
-        write_number(wide(ids[i]));
-        i += 1;
     }
 }
 

@@ -1,10 +1,9 @@
--- `examples::write_bytes` is safe and ends. Assumes nothing.
-use Prim.Native.Nat.{ℕ, _-_, _≤_}
-use native.Mathlib.Omega.{arith}
+-- `cases::write_bytes` is safe and ends. Assumes nothing.
+use Prim.Native.Nat.{_-_, _≤_}
 use lib.ListN.{length}
 use borrow.Author.Needs.{needs}
-use Rattle.examples.proofs.write_bytes.Statement.{statement}
-use Rattle.examples.proofs.write_bytes.Tie as tie
+use Rattle.cases.proofs.write_bytes.Statement.{statement}
+use Rattle.cases.proofs.write_bytes.Tie as tie
 
 abbrev Inv-loop : tie.InvT-loop
 Inv-loop bytes i₀ t4 i = i ≤ length bytes

@@ -1,9 +1,9 @@
--- `streams::write_ids` is safe and ends. Assumes nothing.
+-- `cases::write_ids` is safe and ends. Assumes nothing.
 use Prim.Native.Nat.{_-_, _≤_}
 use lib.ListN.{length}
 use borrow.Author.Needs.{needs}
-use Rattle.streams.proofs.write_ids.Statement.{statement}
-use Rattle.streams.proofs.write_ids.Tie as tie
+use Rattle.cases.proofs.write_ids.Statement.{statement}
+use Rattle.cases.proofs.write_ids.Tie as tie
 
 abbrev Inv-loop : tie.InvT-loop
 Inv-loop ids count i₀ t4 i = i ≤ length ids
@@ -23,14 +23,14 @@ slice-aggregate-write c = search needs
 write-requires : tie.Need-write-requires Inv-loop μ-loop
 write-requires c κs = search needs
 
-mul-wide : tie.Need-mul-wide Inv-loop μ-loop
-mul-wide c = search needs
+mul-wide-id : tie.Need-mul-wide-id Inv-loop μ-loop
+mul-wide-id c = search needs
 
-shared-slice-read-wide : tie.Need-shared-slice-read-wide Inv-loop μ-loop
-shared-slice-read-wide c = search needs
+shared-slice-read-wide-id : tie.Need-shared-slice-read-wide-id Inv-loop μ-loop
+shared-slice-read-wide-id c = search needs
 
-wide-requires : tie.Need-wide-requires Inv-loop μ-loop
-wide-requires c κs = search needs
+wide-id-requires : tie.Need-wide-id-requires Inv-loop μ-loop
+wide-id-requires c κs = search needs
 
 write-number-requires : tie.Need-write-number-requires Inv-loop μ-loop
 write-number-requires c κs = search needs
@@ -57,9 +57,9 @@ write-ids-spec =
     returns
     slice-aggregate-write
     write-requires
-    mul-wide
-    shared-slice-read-wide
-    wide-requires
+    mul-wide-id
+    shared-slice-read-wide-id
+    wide-id-requires
     write-number-requires
     add-i
     loop-less

@@ -1,11 +1,11 @@
--- `examples::unhex` meets its contract. The invariant: as many bytes are written as fit. Assumes nothing.
-use mathlib.Core.Path.{_≡_, refl, _∙_}
-use Prim.Native.Nat.{ℕ, _-_, _≤_}
+-- `cases::unhex` meets its contract. The invariant: as many bytes are written as fit. Assumes nothing.
+use mathlib.Core.Path.{_≡_}
+use Prim.Native.Nat.{_-_, _≤_}
 use native.Mathlib.Omega.{arith}
 use lib.ListN.{length, length-set}
 use borrow.Author.Needs.{needs}
-use Rattle.examples.proofs.unhex.Statement.{statement}
-use Rattle.examples.proofs.unhex.Tie as tie
+use Rattle.cases.proofs.unhex.Statement.{statement}
+use Rattle.cases.proofs.unhex.Tie as tie
 
 abbrev Inv-loop : tie.InvT-loop
 Inv-loop text out₀ n₀ out n = (n ≤ length out) × (length out ≡ length out₀)

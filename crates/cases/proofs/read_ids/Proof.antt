@@ -1,11 +1,11 @@
--- `examples::decode::read_ids` meets its contract. The invariant: as many ids are written as fit. Assumes nothing.
+-- `cases::read_ids` meets its contract. The invariant: as many ids are written as fit. Assumes nothing.
 use mathlib.Core.Path.{_≡_}
-use Prim.Native.Nat.{ℕ, _-_, _≤_}
+use Prim.Native.Nat.{_-_, _≤_}
 use native.Mathlib.Omega.{arith}
 use lib.ListN.{length, length-set}
 use borrow.Author.Needs.{needs}
-use Rattle.examples.proofs.decode.read_ids.Statement.{statement}
-use Rattle.examples.proofs.decode.read_ids.Tie as tie
+use Rattle.cases.proofs.read_ids.Statement.{statement}
+use Rattle.cases.proofs.read_ids.Tie as tie
 
 abbrev Inv-loop : tie.InvT-loop
 Inv-loop bytes ids₀ n₀ ids n = (n ≤ length ids) × (length ids ≡ length ids₀)
