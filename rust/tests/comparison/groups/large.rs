@@ -1,8 +1,9 @@
 //! The large vocabulary: its tables word for word, every token, and long inputs.
+use super::generate::tokens_of;
 use super::random::Random;
-use super::sides::{Lent, decode, encode, original_load};
+use super::sides::{Lent, decode, encode};
 use super::tally::Tally;
-use super::texts::tokens_of;
+use super::theirs::original_load;
 use bombrezen::ffi::Decoding;
 use bombrezen::{RwkvTokenizer, StreamError};
 

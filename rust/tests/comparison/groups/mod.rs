@@ -1,6 +1,7 @@
 //! The groups of cases.
 extern crate original;
 
+mod generate;
 mod inputs;
 mod large;
 mod memory;
@@ -10,6 +11,7 @@ mod sides;
 mod streams;
 mod tally;
 mod texts;
+mod theirs;
 
 use tally::Tally;
 

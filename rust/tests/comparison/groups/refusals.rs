@@ -1,8 +1,9 @@
 //! Refusals that the original hasn't, against document 01's table: 1, 17, 18, 21, and 24 to 26.
+use super::generate::{counts, tokens_of, vocabulary};
 use super::random::Random;
-use super::sides::{Lent, original_load};
+use super::sides::Lent;
 use super::tally::Tally;
-use super::texts::{tokens_of, vocabulary};
+use super::theirs::original_load;
 use bombrezen::ffi::{self, Decoding, Memory, Stream};
 
 /// Number 1: each part a cell too short, for every call; nothing changes.
@@ -99,11 +100,4 @@ pub fn room(tally: &mut Tally) {
             tally.case(answer.0, same, || format!("{text:?} gave {answer:?} and not {wanted:?}"));
         }
     }
-}
-
-/// Nodes (one, and the distinct prefixes of two or more bytes) and blob bytes of the first n tokens.
-fn counts(tokens: &[(u32, Vec<u8>)], n: usize) -> (usize, usize) {
-    let taken = || tokens[..n].iter().map(|(_, token)| token);
-    let prefixes: std::collections::HashSet<&[u8]> = taken().flat_map(|token| (2..=token.len()).map(|k| &token[..k])).collect();
-    (1 + prefixes.len(), taken().map(Vec::len).sum())
 }

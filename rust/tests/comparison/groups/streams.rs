@@ -1,10 +1,11 @@
 //! Streams, cut everywhere, against the original's ids for the whole and a plain stream made from the tokens alone.
-use super::inputs::{generated, input};
+use super::generate::{input, tokens_of};
+use super::inputs::generated;
 use super::original::RwkvTokenizer as Original;
 use super::random::Random;
-use super::sides::{Lent, original_load};
+use super::sides::Lent;
 use super::tally::Tally;
-use super::texts::tokens_of;
+use super::theirs::original_load;
 use bombrezen::ffi::{self, Memory};
 use std::collections::HashMap;
 

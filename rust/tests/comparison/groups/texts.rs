@@ -1,8 +1,10 @@
 //! Texts, good and damaged at every rule, and exhaustive short literals and lines.
+use super::generate::{full_vocabulary, vocabulary};
 use super::original::RwkvTokenizer as Original;
 use super::random::Random;
-use super::sides::{Lent, original_load};
+use super::sides::Lent;
 use super::tally::Tally;
+use super::theirs::original_load;
 
 /// A place to load small texts.
 fn small() -> Lent {
@@ -109,65 +111,6 @@ pub fn pairs_of_lines(tally: &mut Tally) {
     }
 }
 
-/// A vocabulary text: distinct tokens over an alphabet, ids rising by one or more.
-pub fn vocabulary(random: &mut Random, alphabet: &[u8], tokens: usize, longest: usize) -> String {
-    let mut seen = std::collections::HashSet::new();
-    let mut text = String::new();
-    let mut id = 0;
-    for _ in 0..tokens {
-        let len = 1 + random.below(longest);
-        let token = random.bytes(alphabet, len);
-        if seen.insert(token.clone()) {
-            id += 1 + if random.chance(5) { random.below(9) } else { 0 };
-            text += &format!("{id} {} {len}\n", literal_of(random, &token));
-        }
-    }
-    text
-}
-
-/// All 256 bytes, then tokens of two bytes and more.
-pub fn full_vocabulary(random: &mut Random, alphabet: &[u8], tokens: usize, longest: usize) -> String {
-    let mut text: String = (0..=255u8).map(|byte| format!("{} b'\\x{byte:02x}' 1\n", u32::from(byte) + 1)).collect();
-    let mut seen = std::collections::HashSet::new();
-    let mut id = 256;
-    for _ in 0..tokens {
-        let len = 2 + random.below(longest);
-        let token = random.bytes(alphabet, len);
-        if seen.insert(token.clone()) {
-            id += 1;
-            text += &format!("{id} {} {len}\n", literal_of(random, &token));
-        }
-    }
-    text
-}
-
-/// One of the ways to write a token.
-fn literal_of(random: &mut Random, token: &[u8]) -> String {
-    let quote = *random.pick(&['\'', '"']);
-    match std::str::from_utf8(token) {
-        Ok(text) if random.chance(2) => {
-            let inner: String = text
-                .chars()
-                .map(|c| match c {
-                    '\\' => "\\\\".to_string(),
-                    '\n' => "\\n".to_string(),
-                    '\r' => "\\r".to_string(),
-                    '\0' => "\\0".to_string(),
-                    c if c == quote => format!("\\{c}"),
-                    c if u32::from(c) < 0x20 => format!("\\x{:02x}", u32::from(c)),
-                    c if u32::from(c) < 0x1_0000 && u32::from(c) >= 0x80 => format!("\\u{:04x}", u32::from(c)),
-                    c => c.to_string(),
-                })
-                .collect();
-            format!("{quote}{inner}{quote}")
-        }
-        _ => {
-            let inner: String = token.iter().map(|byte| format!("\\x{byte:02x}")).collect();
-            format!("b{quote}{inner}{quote}")
-        }
-    }
-}
-
 /// Generated vocabularies, whole, and each with single characters damaged.
 pub fn damaged(tally: &mut Tally) {
     let mut random = Random::new(1);
@@ -228,11 +171,4 @@ pub fn long(tally: &mut Tally) {
             }
         }
     }
-}
-
-/// The tokens of a loaded vocabulary, in the order of ids.
-pub fn tokens_of(original: &Original) -> Vec<(u32, Vec<u8>)> {
-    let (blob, offsets, ..) = original.raw();
-    let pairs = offsets.windows(2).enumerate().filter(|(_, pair)| pair[0] < pair[1]);
-    pairs.map(|(id, pair)| (id as u32, blob[pair[0] as usize..pair[1] as usize].to_vec())).collect()
 }
