@@ -5,3 +5,9 @@ mod encode;
 mod lent;
 mod load;
 mod report;
+
+pub use decode::rwkv_decode;
+pub use decode::rwkv_decode_lossy;
+pub use decode::rwkv_decode_utf8;
+pub use encode::rwkv_encode;
+pub use load::rwkv_load;

@@ -1,0 +1,192 @@
+-- `replay::load_case` is safe and ends. Assumes nothing.
+use mathlib.Core.Path.{sym}
+use native.Mathlib.Omega.{arith}
+use lib.Seq.{length-take-le}
+use borrow.Author.Needs.{needs}
+use Rattle.replay.proofs.load_case.Statement.{statement}
+use Rattle.replay.proofs.load_case.Tie as tie
+
+least-requires : tie.Need-least-requires
+least-requires c κs = search needs
+
+one-requires : tie.Need-one-requires
+one-requires c κs = search needs
+
+mul-least : tie.Need-mul-least
+mul-least c = search needs
+
+one-requires-2 : tie.Need-one-requires-2
+one-requires-2 c κs = search needs
+
+add-least : tie.Need-add-least
+add-least c = search needs
+
+mul-least-2 : tie.Need-mul-least-2
+mul-least-2 c = search needs
+
+least-requires-2 : tie.Need-least-requires-2
+least-requires-2 c κs = search needs
+
+one-requires-3 : tie.Need-one-requires-3
+one-requires-3 c κs = search needs
+
+mul-least-3 : tie.Need-mul-least-3
+mul-least-3 c = search needs
+
+one-requires-4 : tie.Need-one-requires-4
+one-requires-4 c κs = search needs
+
+add-least-2 : tie.Need-add-least-2
+add-least-2 c = search needs
+
+least-requires-3 : tie.Need-least-requires-3
+least-requires-3 c κs = search needs
+
+one-requires-5 : tie.Need-one-requires-5
+one-requires-5 c κs = search needs
+
+mul-least-4 : tie.Need-mul-least-4
+mul-least-4 c = search needs
+
+least-requires-4 : tie.Need-least-requires-4
+least-requires-4 c κs = search needs
+
+one-requires-6 : tie.Need-one-requires-6
+one-requires-6 c κs = search needs
+
+mul-least-5 : tie.Need-mul-least-5
+mul-least-5 c = search needs
+
+least-requires-5 : tie.Need-least-requires-5
+least-requires-5 c κs = search needs
+
+one-requires-7 : tie.Need-one-requires-7
+one-requires-7 c κs = search needs
+
+mul-least-6 : tie.Need-mul-least-6
+mul-least-6 c = search needs
+
+least-requires-6 : tie.Need-least-requires-6
+least-requires-6 c κs = search needs
+
+sub-load : tie.Need-sub-load
+sub-load c = search needs
+
+part-load-start : tie.Need-part-load-start
+part-load-start c = search needs
+
+part-load-end : tie.Need-part-load-end
+part-load-end c = search needs
+
+one-requires-8 : tie.Need-one-requires-8
+one-requires-8 c κs = search needs
+
+slice-relend-prefix-load : tie.Need-slice-relend-prefix-load
+slice-relend-prefix-load c = search needs
+
+slice-aggregate-load : tie.Need-slice-aggregate-load
+slice-aggregate-load c = sym (length-take-le _ _ (omega arith))
+
+slice-relend-prefix-load-2 : tie.Need-slice-relend-prefix-load-2
+slice-relend-prefix-load-2 c = search needs
+
+slice-aggregate-load-2 : tie.Need-slice-aggregate-load-2
+slice-aggregate-load-2 c = sym (length-take-le _ _ (omega arith))
+
+slice-relend-prefix-load-3 : tie.Need-slice-relend-prefix-load-3
+slice-relend-prefix-load-3 c = search needs
+
+slice-aggregate-load-3 : tie.Need-slice-aggregate-load-3
+slice-aggregate-load-3 c = sym (length-take-le _ _ (omega arith))
+
+slice-relend-prefix-load-4 : tie.Need-slice-relend-prefix-load-4
+slice-relend-prefix-load-4 c = search needs
+
+slice-aggregate-load-4 : tie.Need-slice-aggregate-load-4
+slice-aggregate-load-4 c = sym (length-take-le _ _ (omega arith))
+
+slice-relend-prefix-load-5 : tie.Need-slice-relend-prefix-load-5
+slice-relend-prefix-load-5 c = search needs
+
+slice-aggregate-load-5 : tie.Need-slice-aggregate-load-5
+slice-aggregate-load-5 c = sym (length-take-le _ _ (omega arith))
+
+load-requires : tie.Need-load-requires
+load-requires c κs = search needs
+
+same-length : tie.Need-same-length
+same-length c = search needs
+
+same-length-2 : tie.Need-same-length-2
+same-length-2 c = search needs
+
+same-length-3 : tie.Need-same-length-3
+same-length-3 c = search needs
+
+same-length-4 : tie.Need-same-length-4
+same-length-4 c = search needs
+
+same-length-5 : tie.Need-same-length-5
+same-length-5 c = search needs
+
+same-length-6 : tie.Need-same-length-6
+same-length-6 c = search needs
+
+same-length-7 : tie.Need-same-length-7
+same-length-7 c = search needs
+
+same-length-8 : tie.Need-same-length-8
+same-length-8 c = search needs
+
+returns : tie.Need-returns
+returns c = search needs
+
+pub load-case-spec : {M : Type 1} → statement M
+load-case-spec =
+    tie.close
+    (tie.spec
+    least-requires
+    one-requires
+    mul-least
+    one-requires-2
+    add-least
+    mul-least-2
+    least-requires-2
+    one-requires-3
+    mul-least-3
+    one-requires-4
+    add-least-2
+    least-requires-3
+    one-requires-5
+    mul-least-4
+    least-requires-4
+    one-requires-6
+    mul-least-5
+    least-requires-5
+    one-requires-7
+    mul-least-6
+    least-requires-6
+    sub-load
+    part-load-start
+    part-load-end
+    one-requires-8
+    slice-relend-prefix-load
+    slice-aggregate-load
+    slice-relend-prefix-load-2
+    slice-aggregate-load-2
+    slice-relend-prefix-load-3
+    slice-aggregate-load-3
+    slice-relend-prefix-load-4
+    slice-aggregate-load-4
+    slice-relend-prefix-load-5
+    slice-aggregate-load-5
+    load-requires
+    same-length
+    same-length-2
+    same-length-3
+    same-length-4
+    same-length-5
+    same-length-6
+    same-length-7
+    same-length-8
+    returns)

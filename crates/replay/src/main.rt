@@ -1,0 +1,405 @@
+// Runs the cases of standard input, one to a line, through the calls that a Rust or C program links, and writes what each answers: the
+// number and the report, then what was made. A case is a letter for what is asked, a space, and bytes in hexadecimal:
+//   L  load: 1 for partial, node room (2 bytes, the high one first), blob room (2), blocks of the table, blocks of the marks, the text
+//   E  encode: room for ids, the input
+//   D, U, Y  decode to bytes, to text, to lossy text: room for bytes, ids of three bytes
+// Before all these stands a byte: 0, or 1, 2, 3 for memory with one cell too few of `single`, offsets, roots. After a load a sum over
+// offsets, blob, roots and table is written, and at the end how many cases gave each number.
+// `cases.rs` makes the cases, and the answers by the Rust crate that this is a port of, where it has them.
+mod sums;
+
+use cases::write;
+use cases::write_number;
+use libc::STDIN_FILENO;
+use line::NextLine;
+ghost use Prim.Native.Nat.{_≤_, _<_};
+
+fn least(a: usize, b: usize) -> usize
+    ensures { λ r. ⌜ (r ≤ a) × (r ≤ b) ⌝ }
+{
+    if a < b { a } else { b }
+}
+
+// The byte at a place, 0 past the end.
+fn one(case: &[u8], i: usize) -> usize
+    ensures { λ r. ⌜ r < 256 ⌝ }
+{
+    if i < case.len() {
+        return number_of(case[i]);
+    }
+    0
+}
+
+fn number_of(b: u8) -> usize
+    ensures { λ r. ⌜ r < 256 ⌝ }
+{
+    b as usize
+}
+
+fn wide(n: u32) -> u64 {
+    n as u64
+}
+
+fn size(n: u64) -> usize {
+    n as usize
+}
+
+// A number of the report.
+fn write_next(n: u64) {
+    write(b" ");
+    write_number(n);
+}
+
+// The refusal's number, and the report.
+fn write_report(number: u32, count: u64, place: u64, value: u64) {
+    write_number(wide(number));
+    write_next(count);
+    write_next(place);
+    write_next(value);
+}
+
+// A load into the whole of what it is given.
+fn load(
+    text: &[u8],
+    partial: bool,
+    single: &mut [i32],
+    offsets: &mut [u32],
+    blob: &mut [u8],
+    roots: &mut [u64],
+    table: &mut [u64],
+    nodes: &mut [u32],
+    used: &mut [u64],
+    used_bases: &mut [u64],
+) -> u32 {
+    let mut report = [0u64; 6];
+    let number = rwkv_tokenizer::rwkv_load(
+        text,
+        partial,
+        single,
+        offsets,
+        blob,
+        roots,
+        table,
+        nodes,
+        used,
+        used_bases,
+        &mut report,
+    );
+    write_report(number, report[0], report[1], report[2]);
+    write_next(report[3]);
+    write_next(report[4]);
+    write_next(report[5]);
+    write(b" ");
+    sums::write_sum(offsets, blob, roots, table);
+    number
+}
+
+// A load into as much of it as the case says.
+fn load_case(
+    case: &[u8],
+    single: &mut [i32],
+    offsets: &mut [u32],
+    blob: &mut [u8],
+    roots: &mut [u64],
+    table: &mut [u64],
+    nodes: &mut [u32],
+    used: &mut [u64],
+    used_bases: &mut [u64],
+) -> u32 {
+    let text = least(7, case.len());
+    let node_room = least(6 * (256 * one(case, 1) + one(case, 2)), nodes.len());
+    let blob_room = least(256 * one(case, 3) + one(case, 4), blob.len());
+    let words = least(256 * one(case, 5), table.len());
+    let marks = least(4 * one(case, 6), used.len());
+    let more_marks = least(4 * one(case, 6), used_bases.len());
+    load(
+        &case[text..],
+        one(case, 0) == 1,
+        single,
+        offsets,
+        &mut blob[..blob_room],
+        roots,
+        &mut table[..words],
+        &mut nodes[..node_room],
+        &mut used[..marks],
+        &mut used_bases[..more_marks],
+    )
+}
+
+fn encode_case(
+    case: &[u8],
+    single: &[i32],
+    offsets: &[u32],
+    blob: &[u8],
+    roots: &[u64],
+    table: &[u64],
+    ids: &mut [u32],
+) -> u32 {
+    let mut report = [0u64; 3];
+    let room = least(one(case, 0), ids.len());
+    let start = least(1, case.len());
+    let number = rwkv_tokenizer::rwkv_encode(
+        single,
+        offsets,
+        blob,
+        roots,
+        table,
+        &case[start..],
+        &mut ids[..room],
+        &mut report,
+    );
+    write_report(number, report[0], report[1], report[2]);
+    cases::write_ids(ids, size(report[0]));
+    number
+}
+
+fn decode(
+    kind: u8,
+    single: &[i32],
+    offsets: &[u32],
+    blob: &[u8],
+    roots: &[u64],
+    table: &[u64],
+    ids: &[u32],
+    out: &mut [u8],
+    report: &mut [u64; 3],
+) -> u32 {
+    match kind {
+        b'D' => rwkv_tokenizer::rwkv_decode(single, offsets, blob, roots, table, ids, out, report),
+        b'U' => rwkv_tokenizer::rwkv_decode_utf8(
+            single,
+            offsets,
+            blob,
+            roots,
+            table,
+            ids,
+            out,
+            report,
+        ),
+        _ => rwkv_tokenizer::rwkv_decode_lossy(
+            single,
+            offsets,
+            blob,
+            roots,
+            table,
+            ids,
+            out,
+            report,
+        ),
+    }
+}
+
+fn decode_case(
+    kind: u8,
+    case: &[u8],
+    single: &[i32],
+    offsets: &[u32],
+    blob: &[u8],
+    roots: &[u64],
+    table: &[u64],
+    ids: &mut [u32],
+    out: &mut [u8],
+) -> u32 {
+    let mut report = [0u64; 3];
+    let start = least(1, case.len());
+    let count = cases::read_ids(&case[start..], ids);
+    let room = least(one(case, 0), out.len());
+    let number = decode(
+        kind,
+        single,
+        offsets,
+        blob,
+        roots,
+        table,
+        &ids[..count],
+        &mut out[..room],
+        &mut report,
+    );
+    write_report(number, report[0], report[1], report[2]);
+    write(b" ");
+    let made = least(size(report[0]), out.len());
+    cases::write_bytes(&out[..made]);
+    number
+}
+
+// A case of any kind.
+fn answer(
+    kind: u8,
+    case: &[u8],
+    single: &mut [i32],
+    offsets: &mut [u32],
+    blob: &mut [u8],
+    roots: &mut [u64],
+    table: &mut [u64],
+    nodes: &mut [u32],
+    used: &mut [u64],
+    used_bases: &mut [u64],
+) -> u32 {
+    let mut ids = [0u32; 256];
+    let mut out = [0u8; 256];
+    if kind == b'L' {
+        return load_case(
+            case,
+            single,
+            offsets,
+            blob,
+            roots,
+            table,
+            nodes,
+            used,
+            used_bases,
+        );
+    }
+    if kind == b'E' {
+        return encode_case(case, single, offsets, blob, roots, table, &mut ids);
+    }
+    decode_case(
+        kind,
+        case,
+        single,
+        offsets,
+        blob,
+        roots,
+        table,
+        &mut ids,
+        &mut out,
+    )
+}
+
+// A part's length, or one less if this is the part that is short.
+fn part(len: usize, short: usize, which: usize) -> usize
+    ensures { λ r. ⌜ r ≤ len ⌝ }
+{
+    if short == which {
+        if 0 < len {
+            return len - 1;
+        }
+    }
+    len
+}
+
+// One line: its answer, on a line. `bytes` takes the bytes that it spells.
+fn one_case(
+    case: &[u8],
+    bytes: &mut [u8],
+    single: &mut [i32],
+    offsets: &mut [u32],
+    blob: &mut [u8],
+    roots: &mut [u64],
+    table: &mut [u64],
+    nodes: &mut [u32],
+    used: &mut [u64],
+    used_bases: &mut [u64],
+) -> u32 {
+    if case.len() < 2 {
+        return 0;
+    }
+    let n = cases::unhex(&case[2..], bytes);
+    let start = least(1, n);
+    let short = one(bytes, 0);
+    let few_single = part(single.len(), short, 1);
+    let few_offsets = part(offsets.len(), short, 2);
+    let few_roots = part(roots.len(), short, 3);
+    let number = answer(
+        case[0],
+        &bytes[start..n],
+        &mut single[..few_single],
+        &mut offsets[..few_offsets],
+        blob,
+        &mut roots[..few_roots],
+        table,
+        nodes,
+        used,
+        used_bases,
+    );
+    write(b"\n");
+    number
+}
+
+// One more case with this number.
+fn count(number: u32, counts: &mut [u64]) {
+    let i = number as usize;
+    if i < counts.len() {
+        counts[i] = counts[i] % 4294967296 + 1;
+    }
+}
+
+fn all_cases(
+    input: &[u8],
+    bytes: &mut [u8],
+    single: &mut [i32],
+    offsets: &mut [u32],
+    blob: &mut [u8],
+    roots: &mut [u64],
+    table: &mut [u64],
+    nodes: &mut [u32],
+    used: &mut [u64],
+    used_bases: &mut [u64],
+    counts: &mut [u64],
+) {
+    let mut at = 0;
+    while at < input.len() {
+        let NextLine::Line { end, next } = line::next_line(input, at) else {
+            return;
+        };
+        let number = one_case(
+            &input[at..end],
+            bytes,
+            single,
+            offsets,
+            blob,
+            roots,
+            table,
+            nodes,
+            used,
+            used_bases,
+        );
+        count(number, counts);
+        at = next;
+    }
+}
+
+fn write_counts(counts: &[u64]) {
+    let mut i = 0;
+    while i < counts.len() {
+        write(b"number ");
+        write_number(i as u64);
+        write(b": ");
+        write_number(counts[i]);
+        write(b" cases\n");
+        i += 1;
+    }
+}
+
+fn run(input: &mut [u8]) {
+    let n = io::read_full(STDIN_FILENO, input);
+    let mut bytes = [0u8; 8192];
+    let mut single = [0i32; 256];
+    let mut offsets = [0u32; 65537];
+    let mut blob = [0u8; 4096];
+    let mut roots = [0u64; 65536];
+    let mut table = [0u64; 4096];
+    let mut nodes = [0u32; 24576];
+    let mut used = [0u64; 64];
+    let mut used_bases = [0u64; 64];
+    let mut counts = [0u64; 30];
+    all_cases(
+        &input[..n],
+        &mut bytes,
+        &mut single,
+        &mut offsets,
+        &mut blob,
+        &mut roots,
+        &mut table,
+        &mut nodes,
+        &mut used,
+        &mut used_bases,
+        &mut counts,
+    );
+    write_counts(&counts);
+}
+
+fn main() {
+    let mut input = [0u8; 1048576];
+    run(&mut input);
+}
