@@ -48,6 +48,10 @@
 #include <stddef.h>
 #include <stdint.h>
 
+#ifdef __cplusplus
+extern "C" {
+#endif
+
 /* The least lengths of the fixed parts of the vocabulary memory. The blob takes the bytes of all tokens; the table takes blocks
  * of 256 words, and so do both runs of marks, 4 words each to a block. */
 #define RWKV_SINGLE 256
@@ -92,5 +96,9 @@ uint32_t rwkv_add(RWKV_MEMORY, rwkv_stream *stream, const uint8_t *piece, size_t
 
 /* No more bytes come: hands out the remaining ids. Report: count, offset, byte. */
 uint32_t rwkv_end(RWKV_MEMORY, rwkv_stream *stream, uint32_t *out, size_t out_len, uint64_t report[3]);
+
+#ifdef __cplusplus
+}
+#endif
 
 #endif

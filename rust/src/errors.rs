@@ -72,6 +72,7 @@ impl fmt::Display for Refusal {
         write!(f, "{} (number {})", reason(self.number), self.number)
     }
 }
+impl std::error::Error for Refusal {}
 
 /// Why a vocabulary could not be loaded.
 #[derive(Debug)]
@@ -100,7 +101,7 @@ impl std::error::Error for VocabError {
     fn source(&self) -> Option<&(dyn std::error::Error + 'static)> {
         match self {
             Self::Io { source, .. } => Some(source),
-            Self::Invalid(_) => None,
+            Self::Invalid(refusal) => Some(refusal),
         }
     }
 }
@@ -113,6 +114,13 @@ pub struct EncodeError {
     pub byte_offset: usize,
     /// The unencodable byte.
     pub byte: u8,
+}
+
+impl EncodeError {
+    /// Document 01's number.
+    pub fn number(&self) -> u32 {
+        22
+    }
 }
 
 impl fmt::Display for EncodeError {
@@ -180,7 +188,7 @@ impl StreamError {
     /// Document 01's number.
     pub fn number(&self) -> u32 {
         match self {
-            Self::NoToken(_) => 22,
+            Self::NoToken(error) => error.number(),
             Self::TooLong => 25,
             Self::Ended => 26,
         }

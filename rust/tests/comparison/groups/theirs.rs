@@ -73,11 +73,7 @@ pub fn decoded(original: &Original, how: Decoding, ids: &[u32], cells: usize) ->
         (Decoding::Lossy, Some(id)) => (27, vec![], present.len() as u64, id),
         (Decoding::Lossy, None) => {
             let text = original.decode_lossy(ids).expect("present ids").into_bytes();
-            if text.len() > cells {
-                (28, vec![], ids.len() as u64, 0)
-            } else {
-                (0, text, 0, 0)
-            }
+            if text.len() > cells { (28, vec![], ids.len() as u64, 0) } else { (0, text, 0, 0) }
         }
         _ if fit < present.len() => (28, bytes[..len].to_vec(), fit as u64, 0),
         (_, Some(id)) => (27, bytes, present.len() as u64, id),
