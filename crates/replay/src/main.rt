@@ -58,7 +58,7 @@ fn write_report(number: u32, count: u64, place: u64, value: u64) {
     write_next(value);
 }
 
-// A load into the whole of what it is given.
+// A load with so many nodes, and blocks of the marks.
 fn load(
     text: &[u8],
     partial: bool,
@@ -67,12 +67,16 @@ fn load(
     blob: &mut [u8],
     roots: &mut [u64],
     table: &mut [u64],
-    nodes: &mut [u32],
-    used: &mut [u64],
-    used_bases: &mut [u64],
-) -> u32 {
-    let mut report = [0u64; 6];
-    let number = rwkv_tokenizer::rwkv_load(
+    room: usize,
+    blocks: usize,
+    report: &mut [u64; 6],
+) -> u32
+    requires { ⌜ (room ≤ 4096) × (blocks ≤ 16) ⌝ }
+{
+    let mut nodes = [0u32; 24576];
+    let mut used = [0u64; 64];
+    let mut used_bases = [0u64; 64];
+    rwkv_tokenizer::rwkv_load(
         text,
         partial,
         single,
@@ -80,9 +84,38 @@ fn load(
         blob,
         roots,
         table,
-        nodes,
-        used,
-        used_bases,
+        &mut nodes[..6 * room],
+        &mut used[..4 * blocks],
+        &mut used_bases[..4 * blocks],
+        report,
+    )
+}
+
+// A load, and a sum over the whole of what it was given.
+fn load_all(
+    text: &[u8],
+    partial: bool,
+    single: &mut [i32],
+    offsets: &mut [u32],
+    blob: &mut [u8],
+    roots: &mut [u64],
+    table: &mut [u64],
+    room: usize,
+    blocks: usize,
+) -> u32
+    requires { ⌜ (room ≤ 4096) × (blocks ≤ 16) ⌝ }
+{
+    let mut report = [0u64; 6];
+    let number = load(
+        text,
+        partial,
+        single,
+        offsets,
+        blob,
+        roots,
+        table,
+        room,
+        blocks,
         &mut report,
     );
     write_report(number, report[0], report[1], report[2]);
@@ -94,7 +127,7 @@ fn load(
     number
 }
 
-// A load into as much of it as the case says.
+// A load into as much of the memory as the case says.
 fn load_case(
     case: &[u8],
     single: &mut [i32],
@@ -102,17 +135,13 @@ fn load_case(
     blob: &mut [u8],
     roots: &mut [u64],
     table: &mut [u64],
-    nodes: &mut [u32],
-    used: &mut [u64],
-    used_bases: &mut [u64],
 ) -> u32 {
     let text = least(7, case.len());
-    let node_room = least(6 * (256 * one(case, 1) + one(case, 2)), nodes.len());
+    let room = least(256 * one(case, 1) + one(case, 2), 4096);
     let blob_room = least(256 * one(case, 3) + one(case, 4), blob.len());
     let words = least(256 * one(case, 5), table.len());
-    let marks = least(4 * one(case, 6), used.len());
-    let more_marks = least(4 * one(case, 6), used_bases.len());
-    load(
+    let blocks = least(one(case, 6), 16);
+    load_all(
         &case[text..],
         one(case, 0) == 1,
         single,
@@ -120,9 +149,8 @@ fn load_case(
         &mut blob[..blob_room],
         roots,
         &mut table[..words],
-        &mut nodes[..node_room],
-        &mut used[..marks],
-        &mut used_bases[..more_marks],
+        room,
+        blocks,
     )
 }
 
@@ -231,24 +259,11 @@ fn answer(
     blob: &mut [u8],
     roots: &mut [u64],
     table: &mut [u64],
-    nodes: &mut [u32],
-    used: &mut [u64],
-    used_bases: &mut [u64],
 ) -> u32 {
     let mut ids = [0u32; 256];
     let mut out = [0u8; 256];
     if kind == b'L' {
-        return load_case(
-            case,
-            single,
-            offsets,
-            blob,
-            roots,
-            table,
-            nodes,
-            used,
-            used_bases,
-        );
+        return load_case(case, single, offsets, blob, roots, table);
     }
     if kind == b'E' {
         return encode_case(case, single, offsets, blob, roots, table, &mut ids);
@@ -287,9 +302,6 @@ fn one_case(
     blob: &mut [u8],
     roots: &mut [u64],
     table: &mut [u64],
-    nodes: &mut [u32],
-    used: &mut [u64],
-    used_bases: &mut [u64],
 ) -> u32 {
     if case.len() < 2 {
         return 0;
@@ -308,9 +320,6 @@ fn one_case(
         blob,
         &mut roots[..few_roots],
         table,
-        nodes,
-        used,
-        used_bases,
     );
     write(b"\n");
     number
@@ -332,9 +341,6 @@ fn all_cases(
     blob: &mut [u8],
     roots: &mut [u64],
     table: &mut [u64],
-    nodes: &mut [u32],
-    used: &mut [u64],
-    used_bases: &mut [u64],
     counts: &mut [u64],
 ) {
     let mut at = 0;
@@ -342,18 +348,7 @@ fn all_cases(
         let NextLine::Line { end, next } = line::next_line(input, at) else {
             return;
         };
-        let number = one_case(
-            &input[at..end],
-            bytes,
-            single,
-            offsets,
-            blob,
-            roots,
-            table,
-            nodes,
-            used,
-            used_bases,
-        );
+        let number = one_case(&input[at..end], bytes, single, offsets, blob, roots, table);
         count(number, counts);
         at = next;
     }
@@ -379,9 +374,6 @@ fn run(input: &mut [u8]) {
     let mut blob = [0u8; 4096];
     let mut roots = [0u64; 65536];
     let mut table = [0u64; 4096];
-    let mut nodes = [0u32; 24576];
-    let mut used = [0u64; 64];
-    let mut used_bases = [0u64; 64];
     let mut counts = [0u64; 30];
     all_cases(
         &input[..n],
@@ -391,9 +383,6 @@ fn run(input: &mut [u8]) {
         &mut blob,
         &mut roots,
         &mut table,
-        &mut nodes,
-        &mut used,
-        &mut used_bases,
         &mut counts,
     );
     write_counts(&counts);

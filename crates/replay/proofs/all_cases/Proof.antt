@@ -9,15 +9,13 @@ use Rattle.replay.proofs.all_cases.Statement.{statement}
 use Rattle.replay.proofs.all_cases.Tie as tie
 
 abbrev Inv-loop : tie.InvT-loop
-Inv-loop input bytes₀ single₀ offsets₀ blob₀ roots₀ table₀ nodes₀ used₀ used-bases₀ counts₀ at₀ bytes single offsets blob roots
-    table nodes used used-bases counts at =
+Inv-loop input bytes₀ single₀ offsets₀ blob₀ roots₀ table₀ counts₀ at₀ bytes single offsets blob roots table counts at =
     (at ≤ length input) × (length bytes ≡ length bytes₀) × (length single ≡ length single₀) × (length offsets ≡ length offsets₀) ×
-    (length blob ≡ length blob₀) × (length roots ≡ length roots₀) × (length table ≡ length table₀) × (length nodes ≡ length
-    nodes₀) × (length used ≡ length used₀) × (length used-bases ≡ length used-bases₀) × (length counts ≡ length counts₀)
+    (length blob ≡ length blob₀) × (length roots ≡ length roots₀) × (length table ≡ length table₀) × (length counts ≡ length
+    counts₀)
 
 abbrev μ-loop : tie.MeasureT-loop
-μ-loop input bytes₀ single₀ offsets₀ blob₀ roots₀ table₀ nodes₀ used₀ used-bases₀ counts₀ at₀ bytes single offsets blob roots table
-    nodes used used-bases counts at =
+μ-loop input bytes₀ single₀ offsets₀ blob₀ roots₀ table₀ counts₀ at₀ bytes single offsets blob roots table counts at =
     length input - at
 
 loop-holds : tie.Need-loop-holds Inv-loop μ-loop
@@ -53,36 +51,27 @@ same-length-6 c = search needs
 same-length-7 : tie.Need-same-length-7 Inv-loop μ-loop
 same-length-7 c = search needs
 
-same-length-8 : tie.Need-same-length-8 Inv-loop μ-loop
-same-length-8 c = search needs
-
-same-length-9 : tie.Need-same-length-9 Inv-loop μ-loop
-same-length-9 c = search needs
-
-same-length-10 : tie.Need-same-length-10 Inv-loop μ-loop
-same-length-10 c = search needs
-
 returns : tie.Need-returns Inv-loop μ-loop
 returns c = search needs
 
 sub-one-case : tie.Need-sub-one-case Inv-loop μ-loop
 sub-one-case c =
     let g = walk-goes (c .before .before .before .before .before .before .before .before .before .before .before .before .before
-    .before .before .before .args .input .now) (c .before .before .before .before .before .loop .at) _ _
+    .args .input .now) (c .before .before .before .before .before .loop .at) _ _
     (sym (c .before .end .given .1) ∙ c .before .before .before .next-line .ensures) in
     omega arith
 
 part-one-case-start : tie.Need-part-one-case-start Inv-loop μ-loop
 part-one-case-start c =
     let g = walk-goes (c .before .before .before .before .before .before .before .before .before .before .before .before .before
-    .before .before .before .args .input .now) (c .before .before .before .before .before .loop .at) _ _
+    .args .input .now) (c .before .before .before .before .before .loop .at) _ _
     (sym (c .before .end .given .1) ∙ c .before .before .before .next-line .ensures) in
     omega arith
 
 part-one-case-end : tie.Need-part-one-case-end Inv-loop μ-loop
 part-one-case-end c =
     let g = walk-goes (c .before .before .before .before .before .before .before .before .before .before .before .before .before
-    .before .before .before .args .input .now) (c .before .before .before .before .before .loop .at) _ _
+    .args .input .now) (c .before .before .before .before .before .loop .at) _ _
     (sym (c .before .end .given .1) ∙ c .before .before .before .next-line .ensures) in
     omega arith
 
@@ -96,38 +85,31 @@ loop-less : tie.Need-loop-less Inv-loop μ-loop
 loop-less c =
     let g = walk-goes (c .before .before .before .before .before .before .before .before .before .before .before .before .before
     .before .before .before .before .before .before .before .before .before .before .before .before .before .before .before
+    .before .before .before .before .before .before .before .before .args .input .now) (c .before .before .before .before
     .before .before .before .before .before .before .before .before .before .before .before .before .before .before .before
-    .before .before .before .before .before .args .input .now) (c .before .before .before .before .before .before .before
+    .before .before .before .before .before .before .before .before .before .loop .at) _ _
+    (sym (c .before .before .before .before .before .before .before .before .before .before .before .before .before .before .before
+    .before .before .before .before .before .before .before .before .before .end .given .1) ∙ c .before .before .before .before
     .before .before .before .before .before .before .before .before .before .before .before .before .before .before .before
-    .before .before .before .before .before .before .before .before .before .before .before .before .before .before .before
-    .loop .at) _ _
-    (sym (c .before .before .before .before .before .before .before .before .before .before .before .before .before .before
-    .before .before .before .before .before .before .before .before .before .before .before .before .before .before .before
-    .before .before .before .before .end .given .1) ∙ c .before .before .before .before .before .before .before .before .before
-    .before .before .before .before .before .before .before .before .before .before .before .before .before .before .before
-    .before .before .before .before .before .before .before .before .before .before .before .next-line .ensures) in
+    .before .before .before .before .before .before .before .next-line .ensures) in
     omega arith
 
 loop-again : tie.Need-loop-again Inv-loop μ-loop
 loop-again c =
     let g = walk-goes (c .before .before .before .before .before .before .before .before .before .before .before .before .before
     .before .before .before .before .before .before .before .before .before .before .before .before .before .before .before
+    .before .before .before .before .before .before .before .before .args .input .now) (c .before .before .before .before
     .before .before .before .before .before .before .before .before .before .before .before .before .before .before .before
-    .before .before .before .before .before .args .input .now) (c .before .before .before .before .before .before .before
+    .before .before .before .before .before .before .before .before .before .loop .at) _ _
+    (sym (c .before .before .before .before .before .before .before .before .before .before .before .before .before .before .before
+    .before .before .before .before .before .before .before .before .before .end .given .1) ∙ c .before .before .before .before
     .before .before .before .before .before .before .before .before .before .before .before .before .before .before .before
-    .before .before .before .before .before .before .before .before .before .before .before .before .before .before .before
-    .loop .at) _ _
-    (sym (c .before .before .before .before .before .before .before .before .before .before .before .before .before .before
-    .before .before .before .before .before .before .before .before .before .before .before .before .before .before .before
-    .before .before .before .before .end .given .1) ∙ c .before .before .before .before .before .before .before .before .before
-    .before .before .before .before .before .before .before .before .before .before .before .before .before .before .before
-    .before .before .before .before .before .before .before .before .before .before .before .next-line .ensures) in
+    .before .before .before .before .before .before .before .next-line .ensures) in
     let k = c .before .before .before .before .before .before .before .before .before .before .before .before .before .before
-    .before .before .before .before .before .before .before .one-case .kept in
+    .before .one-case .kept in
     let n = c .before .before .count .kept in
     let v = c .before .before .before .before .before .before .before .before .before .before .before .before .before .before
-    .before .before .before .before .before .before .before .before .before .before .before .before .before .before .before
-    .before .before .before .before .before .before .before .before .loop .inv in (
+    .before .before .before .before .before .before .before .before .before .before .before .before .before .before .loop .inv in (
       omega arith,
       k .1 .0 ∙ v .1,
       k .1 .1 .0 ∙ v .2,
@@ -135,11 +117,17 @@ loop-again c =
       k .1 .1 .1 .1 .0 ∙ v .4,
       k .1 .1 .1 .1 .1 .0 ∙ v .5,
       k .1 .1 .1 .1 .1 .1 .0 ∙ v .6,
-      k .1 .1 .1 .1 .1 .1 .1 .0 ∙ v .7,
-      k .1 .1 .1 .1 .1 .1 .1 .1 .0 ∙ v .8,
-      k .1 .1 .1 .1 .1 .1 .1 .1 .1 .0 ∙ v .9,
-      n .1 .0 ∙ v .10,
+      n .1 .0 ∙ v .7,
     )
+
+same-length-8 : tie.Need-same-length-8 Inv-loop μ-loop
+same-length-8 c = search needs
+
+same-length-9 : tie.Need-same-length-9 Inv-loop μ-loop
+same-length-9 c = search needs
+
+same-length-10 : tie.Need-same-length-10 Inv-loop μ-loop
+same-length-10 c = search needs
 
 same-length-11 : tie.Need-same-length-11 Inv-loop μ-loop
 same-length-11 c = search needs
@@ -152,24 +140,6 @@ same-length-13 c = search needs
 
 same-length-14 : tie.Need-same-length-14 Inv-loop μ-loop
 same-length-14 c = search needs
-
-same-length-15 : tie.Need-same-length-15 Inv-loop μ-loop
-same-length-15 c = search needs
-
-same-length-16 : tie.Need-same-length-16 Inv-loop μ-loop
-same-length-16 c = search needs
-
-same-length-17 : tie.Need-same-length-17 Inv-loop μ-loop
-same-length-17 c = search needs
-
-same-length-18 : tie.Need-same-length-18 Inv-loop μ-loop
-same-length-18 c = search needs
-
-same-length-19 : tie.Need-same-length-19 Inv-loop μ-loop
-same-length-19 c = search needs
-
-same-length-20 : tie.Need-same-length-20 Inv-loop μ-loop
-same-length-20 c = search needs
 
 returns-2 : tie.Need-returns-2 Inv-loop μ-loop
 returns-2 c = search needs
@@ -191,9 +161,6 @@ all-cases-spec =
     same-length-5
     same-length-6
     same-length-7
-    same-length-8
-    same-length-9
-    same-length-10
     returns
     sub-one-case
     part-one-case-start
@@ -202,14 +169,11 @@ all-cases-spec =
     count-requires
     loop-less
     loop-again
+    same-length-8
+    same-length-9
+    same-length-10
     same-length-11
     same-length-12
     same-length-13
     same-length-14
-    same-length-15
-    same-length-16
-    same-length-17
-    same-length-18
-    same-length-19
-    same-length-20
     returns-2)

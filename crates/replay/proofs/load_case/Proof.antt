@@ -21,17 +21,14 @@ one-requires-2 c κs = search needs
 add-least : tie.Need-add-least
 add-least c = search needs
 
-mul-least-2 : tie.Need-mul-least-2
-mul-least-2 c = search needs
-
 least-requires-2 : tie.Need-least-requires-2
 least-requires-2 c κs = search needs
 
 one-requires-3 : tie.Need-one-requires-3
 one-requires-3 c κs = search needs
 
-mul-least-3 : tie.Need-mul-least-3
-mul-least-3 c = search needs
+mul-least-2 : tie.Need-mul-least-2
+mul-least-2 c = search needs
 
 one-requires-4 : tie.Need-one-requires-4
 one-requires-4 c κs = search needs
@@ -45,8 +42,8 @@ least-requires-3 c κs = search needs
 one-requires-5 : tie.Need-one-requires-5
 one-requires-5 c κs = search needs
 
-mul-least-4 : tie.Need-mul-least-4
-mul-least-4 c = search needs
+mul-least-3 : tie.Need-mul-least-3
+mul-least-3 c = search needs
 
 least-requires-4 : tie.Need-least-requires-4
 least-requires-4 c κs = search needs
@@ -54,65 +51,35 @@ least-requires-4 c κs = search needs
 one-requires-6 : tie.Need-one-requires-6
 one-requires-6 c κs = search needs
 
-mul-least-5 : tie.Need-mul-least-5
-mul-least-5 c = search needs
-
 least-requires-5 : tie.Need-least-requires-5
 least-requires-5 c κs = search needs
+
+sub-load-all : tie.Need-sub-load-all
+sub-load-all c = search needs
+
+part-load-all-start : tie.Need-part-load-all-start
+part-load-all-start c = search needs
+
+part-load-all-end : tie.Need-part-load-all-end
+part-load-all-end c = search needs
 
 one-requires-7 : tie.Need-one-requires-7
 one-requires-7 c κs = search needs
 
-mul-least-6 : tie.Need-mul-least-6
-mul-least-6 c = search needs
+slice-relend-prefix-load-all : tie.Need-slice-relend-prefix-load-all
+slice-relend-prefix-load-all c = search needs
 
-least-requires-6 : tie.Need-least-requires-6
-least-requires-6 c κs = search needs
+slice-aggregate-load-all : tie.Need-slice-aggregate-load-all
+slice-aggregate-load-all c = sym (length-take-le _ _ (omega arith))
 
-sub-load : tie.Need-sub-load
-sub-load c = search needs
+slice-relend-prefix-load-all-2 : tie.Need-slice-relend-prefix-load-all-2
+slice-relend-prefix-load-all-2 c = search needs
 
-part-load-start : tie.Need-part-load-start
-part-load-start c = search needs
+slice-aggregate-load-all-2 : tie.Need-slice-aggregate-load-all-2
+slice-aggregate-load-all-2 c = sym (length-take-le _ _ (omega arith))
 
-part-load-end : tie.Need-part-load-end
-part-load-end c = search needs
-
-one-requires-8 : tie.Need-one-requires-8
-one-requires-8 c κs = search needs
-
-slice-relend-prefix-load : tie.Need-slice-relend-prefix-load
-slice-relend-prefix-load c = search needs
-
-slice-aggregate-load : tie.Need-slice-aggregate-load
-slice-aggregate-load c = sym (length-take-le _ _ (omega arith))
-
-slice-relend-prefix-load-2 : tie.Need-slice-relend-prefix-load-2
-slice-relend-prefix-load-2 c = search needs
-
-slice-aggregate-load-2 : tie.Need-slice-aggregate-load-2
-slice-aggregate-load-2 c = sym (length-take-le _ _ (omega arith))
-
-slice-relend-prefix-load-3 : tie.Need-slice-relend-prefix-load-3
-slice-relend-prefix-load-3 c = search needs
-
-slice-aggregate-load-3 : tie.Need-slice-aggregate-load-3
-slice-aggregate-load-3 c = sym (length-take-le _ _ (omega arith))
-
-slice-relend-prefix-load-4 : tie.Need-slice-relend-prefix-load-4
-slice-relend-prefix-load-4 c = search needs
-
-slice-aggregate-load-4 : tie.Need-slice-aggregate-load-4
-slice-aggregate-load-4 c = sym (length-take-le _ _ (omega arith))
-
-slice-relend-prefix-load-5 : tie.Need-slice-relend-prefix-load-5
-slice-relend-prefix-load-5 c = search needs
-
-slice-aggregate-load-5 : tie.Need-slice-aggregate-load-5
-slice-aggregate-load-5 c = sym (length-take-le _ _ (omega arith))
-
-load-requires : tie.Need-load-requires
-load-requires c κs = search needs
+load-all-requires : tie.Need-load-all-requires
+load-all-requires c κs = search needs
 
 same-length : tie.Need-same-length
 same-length c = search needs
@@ -129,15 +96,6 @@ same-length-4 c = search needs
 same-length-5 : tie.Need-same-length-5
 same-length-5 c = search needs
 
-same-length-6 : tie.Need-same-length-6
-same-length-6 c = search needs
-
-same-length-7 : tie.Need-same-length-7
-same-length-7 c = search needs
-
-same-length-8 : tie.Need-same-length-8
-same-length-8 c = search needs
-
 returns : tie.Need-returns
 returns c = search needs
 
@@ -150,43 +108,29 @@ load-case-spec =
     mul-least
     one-requires-2
     add-least
-    mul-least-2
     least-requires-2
     one-requires-3
-    mul-least-3
+    mul-least-2
     one-requires-4
     add-least-2
     least-requires-3
     one-requires-5
-    mul-least-4
+    mul-least-3
     least-requires-4
     one-requires-6
-    mul-least-5
     least-requires-5
+    sub-load-all
+    part-load-all-start
+    part-load-all-end
     one-requires-7
-    mul-least-6
-    least-requires-6
-    sub-load
-    part-load-start
-    part-load-end
-    one-requires-8
-    slice-relend-prefix-load
-    slice-aggregate-load
-    slice-relend-prefix-load-2
-    slice-aggregate-load-2
-    slice-relend-prefix-load-3
-    slice-aggregate-load-3
-    slice-relend-prefix-load-4
-    slice-aggregate-load-4
-    slice-relend-prefix-load-5
-    slice-aggregate-load-5
-    load-requires
+    slice-relend-prefix-load-all
+    slice-aggregate-load-all
+    slice-relend-prefix-load-all-2
+    slice-aggregate-load-all-2
+    load-all-requires
     same-length
     same-length-2
     same-length-3
     same-length-4
     same-length-5
-    same-length-6
-    same-length-7
-    same-length-8
     returns)
