@@ -3,6 +3,7 @@ use super::original::RwkvTokenizer as Original;
 use super::random::Random;
 use super::sides::{decode, encode};
 use super::tally::Tally;
+use super::theirs::{decoded, encoded};
 use bombrezen::ffi::{Decoding, Memory};
 use std::panic::{AssertUnwindSafe, catch_unwind};
 
@@ -51,13 +52,9 @@ pub fn encoding(tally: &mut Tally) {
         for _ in 0..200 {
             let len = random.below(30);
             let src = random.bytes(&[0, 1, 2, 3], len);
-            let Ok(wanted) = catch_unwind(AssertUnwindSafe(|| original.encode_bytes(&src))) else { continue };
+            let Ok(wanted) = catch_unwind(AssertUnwindSafe(|| encoded(&original, &src, src.len()))) else { continue };
             let answer = encode(memory, &src, src.len());
-            let same = match &wanted {
-                Ok(ids) => answer == (0, ids.clone(), 0, 0),
-                Err(error) => (answer.0, answer.2, answer.3) == (22, error.byte_offset as u64, u64::from(error.byte)),
-            };
-            tally.case(answer.0, same, || format!("other memory: encoding {src:?} gave {answer:?} and not {wanted:?}"));
+            tally.case(answer.0, answer == wanted, || format!("encoding {src:?} gave {answer:?} and not {wanted:?}"));
         }
     }
 }
@@ -79,16 +76,14 @@ pub fn decoding(tally: &mut Tally) {
         let memory = Memory { single: &[-1; 256], offsets: &offsets, blob: &blob, roots: &[0; 65_536], table: &[0; 256] };
         for _ in 0..60 {
             let ids: Vec<u32> = (0..random.below(4)).map(|_| random.below(66) as u32).collect();
-            let Ok(wanted) = catch_unwind(AssertUnwindSafe(|| original.decode_bytes(&ids))) else { continue };
             if ids.iter().any(|&id| offsets[id as usize + 1].abs_diff(offsets[id as usize]) > 255) {
                 continue;
             }
-            let answer = decode(memory, Decoding::Bytes, &ids, 1024);
-            let same = match &wanted {
-                Ok(bytes) => answer == (0, bytes.clone(), 0, 0),
-                Err(_) => answer.0 == 27,
-            };
-            tally.case(answer.0, same, || format!("other memory: decoding {ids:?} gave {answer:?} and not {wanted:?}"));
+            for how in [Decoding::Bytes, Decoding::Text, Decoding::Lossy] {
+                let Ok(wanted) = catch_unwind(AssertUnwindSafe(|| decoded(&original, how, &ids, 4096))) else { continue };
+                let answer = decode(memory, how, &ids, 4096);
+                tally.case(answer.0, answer == wanted, || format!("{how:?} of {ids:?} gave {answer:?} and not {wanted:?}"));
+            }
         }
     }
 }
