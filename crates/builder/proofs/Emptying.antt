@@ -28,7 +28,8 @@ whole l =
     ∙ append-nil (replicate (length l) 0)
 
 module _ (s : List ℤ) (os bl rs tb : List ℕ) (long : LongEnough (memory s os bl rs tb)) where
-  pub all-emptied : {s′ : List ℤ} {os′ bl′ rs′ tb′ : List ℕ} → s′ ≡ sets s 0 (replicate 256 (negsuc 0)) → os′ ≡ sets os 0 (replicate 65537 0)
+  pub all-emptied : {s′ : List ℤ} {os′ bl′ rs′ tb′ : List ℕ} → s′ ≡ sets s 0 (replicate 256 (negsuc 0)) → os′
+      ≡ sets os 0 (replicate 65537 0)
       → bl′ ≡ sets bl 0 (replicate (length bl) 0) → rs′ ≡ sets rs 0 (replicate 65536 0) → tb′ ≡ sets tb 0 (replicate (length tb) 0)
       → memory s′ os′ bl′ rs′ tb′ ≡ emptied (memory s os bl rs tb)
   unfolding emptied

@@ -30,11 +30,13 @@ module _ (previous id : ℕ) (rest : Check Token) where
     module _ (b : id ≡ previous → ⊥) where
       pub id-below : id < previous → idRule previous id rest ≡ refuse 10
       unfolding idRule
-      id-below e = holds 8 _ (ap not (ne-eqb id 0 a)) ∙ holds 9 _ (ap not (ne-eqb id previous b)) ∙ fails 10 _ (ap not (lt-ltb id previous e))
+      id-below e = holds 8 _ (ap not (ne-eqb id 0 a)) ∙ holds 9 _ (ap not (ne-eqb id previous b))
+          ∙ fails 10 _ (ap not (lt-ltb id previous e))
 
       pub id-good : previous ≤ id → idRule previous id rest ≡ rest
       unfolding idRule
-      id-good e = holds 8 _ (ap not (ne-eqb id 0 a)) ∙ holds 9 _ (ap not (ne-eqb id previous b)) ∙ holds 10 _ (ap not (le-ltb id previous e))
+      id-good e = holds 8 _ (ap not (ne-eqb id 0 a)) ∙ holds 9 _ (ap not (ne-eqb id previous b))
+          ∙ holds 10 _ (ap not (le-ltb id previous e))
 
 module _ (wanted len : ℕ) (t : Token) (is : length (t .bytes) ≡ len) where
   pub length-zero : len ≡ 0 → lengthRule wanted t ≡ refuse 13
@@ -53,9 +55,11 @@ module _ (wanted len : ℕ) (t : Token) (is : length (t .bytes) ≡ len) where
       pub length-long : 255 < len → lengthRule wanted t ≡ refuse 15
       unfolding lengthRule
       length-long e =
-          holds 13 _ some-bytes ∙ holds 14 _ (eq-eqb (length (t .bytes)) wanted (is ∙ b)) ∙ fails 15 _ (lt-leb (length (t .bytes)) 255 (omega arith))
+          holds 13 _ some-bytes ∙ holds 14 _ (eq-eqb (length (t .bytes)) wanted (is ∙ b))
+              ∙ fails 15 _ (lt-leb (length (t .bytes)) 255 (omega arith))
 
       pub length-good : len ≤ 255 → lengthRule wanted t ≡ pass t
       unfolding lengthRule
       length-good e =
-          holds 13 _ some-bytes ∙ holds 14 _ (eq-eqb (length (t .bytes)) wanted (is ∙ b)) ∙ holds 15 _ (le-leb (length (t .bytes)) 255 (omega arith))
+          holds 13 _ some-bytes ∙ holds 14 _ (eq-eqb (length (t .bytes)) wanted (is ∙ b))
+              ∙ holds 15 _ (le-leb (length (t .bytes)) 255 (omega arith))

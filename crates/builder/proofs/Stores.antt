@@ -18,7 +18,8 @@ pub taken-test : (x : ℤ) → leZ (pos 0) x ≡ isTaken x
 taken-test (pos n) = leb·zero n
 taken-test (negsuc n) = refl
 
-pub single-one : (s : List ℤ) (id : ℕ) (bs : List ℕ) (i : ℕ) (v : ℤ) → length bs ≡ 1 → i ≡ getD bs 0 0 → v ≡ pos id → set s i v ≡ setSingle s id bs
+pub single-one : (s : List ℤ) (id : ℕ) (bs : List ℕ) (i : ℕ) (v : ℤ) → length bs ≡ 1 → i ≡ getD bs 0 0 → v ≡ pos id → set s i v
+    ≡ setSingle s id bs
 unfolding setSingle
 single-one s id bs i v e a b = ap₂ (set s) a b ∙ sym (yes-case _ _ (eq-eqb (length bs) 1 e))
 
@@ -26,7 +27,8 @@ pub single-other : (s : List ℤ) (id : ℕ) (bs : List ℕ) → (length bs ≡ 
 unfolding setSingle
 single-other s id bs e = sym (no-case _ _ (ne-eqb (length bs) 1 e))
 
-pub offsets-run : (os os′ : List ℕ) (previous id total from n : ℕ) → os′ ≡ sets os (from + 1) (replicate n total) → from ≡ previous → n ≡ id - previous
+pub offsets-run : (os os′ : List ℕ) (previous id total from n : ℕ) → os′ ≡ sets os (from + 1) (replicate n total) → from ≡ previous → n
+    ≡ id - previous
     → os′ ≡ setOffsets os previous id total
 offsets-run os os′ previous id total from n e a b = e ∙ ap₂ (λ (x y : ℕ). sets os (x + 1) (replicate y total)) a b
 
@@ -49,7 +51,8 @@ module _ (s : List ℤ) (b : ℕ) where
   missing-end h = let k : 256 - b ≡ 0 = omega arith in sym (ap (λ (n : ℕ). missingOn s n b) k ∙ (unfold missingOn in refl))
 
 -- the offsets behind the last id
-pub total-run : (os os′ : List ℕ) (previous total from n : ℕ) → os′ ≡ sets os (from + 1) (replicate n total) → from ≡ previous → n ≡ 65536 - from
+pub total-run : (os os′ : List ℕ) (previous total from n : ℕ) → os′ ≡ sets os (from + 1) (replicate n total) → from ≡ previous → n
+    ≡ 65536 - from
     → os′ ≡ setOffsets os previous 65536 total
 total-run os os′ previous total from n e a b =
     let c : n ≡ 65536 - previous = b ∙ ap (λ (x : ℕ). 65536 - x) a in

@@ -43,7 +43,8 @@ no-blob n l e =
     e ∙ ap (λ (x : ℕ). replicate x 0) k
 
 module _ (s : List ℤ) (os bl rs ns : List ℕ) where
-  pub none-built : Built [] (over (replicate 256 (negsuc 0)) s) (over (replicate 65537 0) os) (replicate (length bl) 0) (over (replicate 65536 0) rs) ns begun
+  pub none-built : Built [] (over (replicate 256 (negsuc 0)) s) (over (replicate 65537 0) os) (replicate (length bl) 0)
+      (over (replicate 65536 0) rs) ns begun
   unfolding lastId nodeCount nodes fold each lengthBefore
   none-built = record {
     valid = none-held (record { nodes = 0; blob = 0; table = 0 }) .valid;
@@ -60,6 +61,7 @@ module _ (s : List ℤ) (os bl rs ns : List ℕ) where
   }
 
   -- the same of memory that is emptied
-  pub built-begins : (tb : List ℕ) {s′ : List ℤ} {os′ bl′ rs′ tb′ : List ℕ} → memory s′ os′ bl′ rs′ tb′ ≡ emptied (memory s os bl rs tb) → Built [] s′ os′ bl′ rs′ ns begun
+  pub built-begins : (tb : List ℕ) {s′ : List ℤ} {os′ bl′ rs′ tb′ : List ℕ} → memory s′ os′ bl′ rs′ tb′ ≡ emptied (memory s os bl rs tb)
+      → Built [] s′ os′ bl′ rs′ ns begun
   unfolding emptied
   built-begins tb e = subst (λ (m : Memory). Built [] (m .single) (m .offsets) (m .blob) (m .roots) ns begun) (sym e) none-built

@@ -16,10 +16,12 @@ module _ {A : Type 0} where
   -- cells before a run stay
   pub run-before : (vs l : List A) (from i : ℕ) (d : A) → i < from → getD (sets l from vs) i d ≡ getD l i d
   run-before [] l from i d h = refl
-  run-before (v ∷ vs) l from i d h = run-before vs (set l from v) (suc from) i d (omega arith) ∙ getD-set-other l from i v d (λ e. omega arith)
+  run-before (v ∷ vs) l from i d h = run-before vs (set l from v) (suc from) i d (omega arith)
+      ∙ getD-set-other l from i v d (λ e. omega arith)
 
   -- those in it are the run's
-  pub run-in : (vs l : List A) (from k : ℕ) (d : A) → from + length vs ≤ length l → k < length vs → getD (sets l from vs) (from + k) d ≡ getD vs k d
+  pub run-in : (vs l : List A) (from k : ℕ) (d : A) → from + length vs ≤ length l → k < length vs → getD (sets l from vs) (from + k) d
+      ≡ getD vs k d
   run-in [] l from k d h q = absurd (omega arith)
   run-in (v ∷ vs) l from zero d h q =
       let p : from + 0 ≡ from = omega arith in
@@ -40,7 +42,8 @@ module _ {A : Type 0} where
 drop-replicate : {A : Type 0} (k n : ℕ) (v : A) → drop k (replicate n v) ≡ replicate (n - k) v
 drop-replicate zero n v = let p : n - 0 ≡ n = omega arith in ap (λ (x : ℕ). replicate x v) (sym p)
 drop-replicate (suc k) zero v = let p : zero - suc k ≡ 0 = omega arith in ap (λ (x : ℕ). replicate x v) (sym p)
-drop-replicate (suc k) (suc n) v = let p : suc n - suc k ≡ n - k = omega arith in drop-replicate k n v ∙ ap (λ (x : ℕ). replicate x v) (sym p)
+drop-replicate (suc k) (suc n) v = let p : suc n - suc k ≡ n - k = omega arith in drop-replicate k n v
+    ∙ ap (λ (x : ℕ). replicate x v) (sym p)
 
 drop-zeros : (l : List ℕ) (k n m : ℕ) → drop k l ≡ replicate n 0 → drop (k + m) l ≡ replicate (n - m) 0
 drop-zeros l k n m e = sym (drop-drop m k l) ∙ ap (drop m) e ∙ drop-replicate m n 0
@@ -65,7 +68,8 @@ module _ (l content vs : List ℕ) (e : l ≡ padded content (length l)) (h : le
 -- ---- a list by its index
 
 -- the first n cells are f's
-pub by-index : {A : Type 0} (l : List A) (f : ℕ → A) (n : ℕ) (d : A) → n ≤ length l → ((i : ℕ) → i < n → getD l i d ≡ f i) → take n l ≡ upFrom f n 0
+pub by-index : {A : Type 0} (l : List A) (f : ℕ → A) (n : ℕ) (d : A) → n ≤ length l → ((i : ℕ) → i < n → getD l i d ≡ f i) → take n l
+    ≡ upFrom f n 0
 by-index l f n d h k =
     let a = length-take-le n l h in
     let b = up-length f n 0 in

@@ -49,11 +49,13 @@ missing-is : (ts : List Token) → ((u : Token) → Mem u ts → 1 ≤ u .id) �
 unfolding missingOn missing
 missing-is ts low s e zero b h = refl
 missing-is ts low s e (suc n) b h =
-    ap₂ (λ (c : Bool) (o : Option ℕ). cond c o (some b)) (taken-seen ts low s e b (omega arith)) (missing-is ts low s e n (suc b) (omega arith))
+    ap₂ (λ (c : Bool) (o : Option ℕ). cond c o (some b)) (taken-seen ts low s e b (omega arith))
+        (missing-is ts low s e n (suc b) (omega arith))
 
 -- ---- the offsets behind the last id
 
-module _ {ts : List Token} {s : List ℤ} {os bl rs ns : List ℕ} {st : Build} (B : Built ts s os bl rs ns st) (long : 65537 ≤ length os) (small : st .previous < 65536) where
+module _ {ts : List Token} {s : List ℤ} {os bl rs ns : List ℕ} {st : Build} (B : Built ts s os bl rs ns st) (long : 65537 ≤ length os)
+    (small : st .previous < 65536) where
   offsets-end : (i : ℕ) → i < 65537 → getD (setOffsets os (st .previous) 65536 (st .used)) i 0 ≡ lengthBefore ts i
   offsets-end i h = go (either (leb i (st .previous)))
     where
@@ -67,7 +69,8 @@ module _ {ts : List Token} {s : List ℤ} {os bl rs ns : List ℕ} {st : Build} 
           let l = length-replicate (65536 - st .previous) (st .used) in
           let q = B .previous in
           ap (λ (x : ℕ). getD (setOffsets os (st .previous) 65536 (st .used)) x 0) (sym k)
-          ∙ run-in (replicate (65536 - st .previous) (st .used)) os (st .previous + 1) (i - (st .previous + 1)) 0 (omega arith) (omega arith)
+          ∙ run-in (replicate (65536 - st .previous) (st .used)) os (st .previous + 1) (i - (st .previous + 1)) 0 (omega arith)
+              (omega arith)
           ∙ getD-replicate (65536 - st .previous) (i - (st .previous + 1)) (st .used) 0 (omega arith)
           ∙ B .used ∙ sym (before-all ts i (λ u mu. let w = last-most 0 ts (B .valid .rising) u mu in omega arith))
 
@@ -81,7 +84,8 @@ module _ {ts : List Token} {s : List ℤ} {os bl rs ns : List ℕ} {st : Build} 
   offsets-all =
       let O : List ℕ = setOffsets os (st .previous) 65536 (st .used) in
       let w = length-sets os (st .previous + 1) (replicate (65536 - st .previous) (st .used)) in
-      over-of 65537 O (upFrom (lengthBefore ts) 65537 0) os (by-index O (lengthBefore ts) 65537 0 (omega arith) offsets-end) (offset-length ts) kept-end
+      over-of 65537 O (upFrom (lengthBefore ts) 65537 0) os (by-index O (lengthBefore ts) 65537 0 (omega arith) offsets-end)
+          (offset-length ts) kept-end
 
 -- ---- 19, 20 and 21, for each way that the end can go
 
@@ -100,7 +104,8 @@ module _ (partial : Bool) (r : Room) where
   finish-some [] e = absurd (e refl)
   finish-some (t ∷ ts) e = refl
 
-  module _ {ts : List Token} {s : List ℤ} {os bl rs ns : List ℕ} {st : Build} (B : Built ts s os bl rs ns st) (tb os′ rs′ tb′ : List ℕ) where
+  module _ {ts : List Token} {s : List ℤ} {os bl rs ns : List ℕ} {st : Build} (B : Built ts s os bl rs ns st)
+      (tb os′ rs′ tb′ : List ℕ) where
     abbrev As : Finished → Type 0
     As f = FinishedAs partial r ts f os rs tb os′ rs′ tb′
 
@@ -117,7 +122,8 @@ module _ (partial : Bool) (r : Room) where
       goes : (o : Option ℕ) → demanded partial (missingOn s 256 0) ≡ o → finish partial r ts ≡ ending o ts
       goes o e = finish-some ts some-tokens ∙ ap (λ (x : Option ℕ). ending x ts) (sym wanted ∙ e)
 
-      pub finished-wanting : (m : Missing) → missingOf m ≡ demanded partial (missingOn s 256 0) → (b : ℕ) → m ≡ Byte b → As (Finished.Wanting b)
+      pub finished-wanting : (m : Missing) → missingOf m ≡ demanded partial (missingOn s 256 0) → (b : ℕ) → m ≡ Byte b
+          → As (Finished.Wanting b)
       finished-wanting m e b k = goes (some b) (sym e ∙ ap missingOf k)
 
       module _ (m : Missing) (e : missingOf m ≡ demanded partial (missingOn s 256 0)) (k : m ≡ Nothing) (most : ℕ) (is : r .table ≡ most)
@@ -131,7 +137,8 @@ module _ (partial : Bool) (r : Room) where
         unfolding answerFor
         finished-full q = last-test ∙ go (leb (tableWords ts) most) (sym q ∙ P .answer)
           where
-            go : (c : Bool) → NoRoom ≡ cond c (Words (tableWords ts)) NoRoom → cond c (accepted ts) (refused 21 nowhere) ≡ refused 21 nowhere
+            go : (c : Bool) → NoRoom ≡ cond c (Words (tableWords ts)) NoRoom → cond c (accepted ts) (refused 21 nowhere)
+                ≡ refused 21 nowhere
             go true z = let y : _≡_ {A = ℕ} 0 1 = cc in absurd (omega arith)
             go false z = refl
 
@@ -142,7 +149,8 @@ module _ (partial : Bool) (r : Room) where
             let (a, b) = go (leb (tableWords ts) most) (sym q ∙ P .answer) in
             (last-test ∙ a, b, eo ∙ offsets-all B long small, P .roots n q, P .table n q)
           where
-            go : (c : Bool) → Words n ≡ cond c (Words (tableWords ts)) NoRoom → (cond c (accepted ts) (refused 21 nowhere) ≡ accepted ts) × (n ≡ tableWords ts)
+            go : (c : Bool) → Words n ≡ cond c (Words (tableWords ts)) NoRoom → (cond c (accepted ts) (refused 21 nowhere) ≡ accepted ts)
+                × (n ≡ tableWords ts)
             go true z = (refl, cc)
             go false z = let y : _≡_ {A = ℕ} 0 1 = cc in absurd (omega arith)
 
@@ -157,6 +165,7 @@ pub end-kept : {s : List ℤ} {os os′ rs rs′ : List ℕ} (previous total : �
 end-kept {s} {os} previous total h e k = record {
   single = refl;
   offsets = ap (drop 65537) e
-      ∙ run-behind (replicate (65536 - previous) total) os (previous + 1) 65537 (let l = length-replicate (65536 - previous) total in omega arith);
+      ∙ run-behind (replicate (65536 - previous) total) os (previous + 1) 65537 (let l = length-replicate (65536 - previous) total in
+          omega arith);
   roots = k;
 }

@@ -2,7 +2,8 @@
 use mathlib.Core.Path.{_≡_, refl, sym, ap, ap₂, _∙_, subst}
 use mathlib.Core.Logic.{_⊎_, inl, inr}
 use mathlib.Core.Bool.{Bool, true, false, not, cond}
-use mathlib.Core.List.{List, [], _∷_, _++_, append-nil, List·Memᴰ as Mem, List·Memᴰ·head as here, List·Memᴰ·tail as there, List·Memᴰ·not-nil as not-nil}
+use mathlib.Core.List.{List, [], _∷_, _++_, append-nil, List·Memᴰ as Mem, List·Memᴰ·head as here, List·Memᴰ·tail as there,
+    List·Memᴰ·not-nil as not-nil}
 use Prim.Native.Nat.{ℕ, zero, suc, _+_, _-_, _*_, _^_, _≤_, _<_, min}
 use native.Mathlib.Omega.{arith}
 use lib.IntN.{ℤ, pos}
@@ -58,7 +59,8 @@ last-snoc [] t = refl
 last-snoc (u ∷ []) t = refl
 last-snoc (u ∷ v ∷ ts) t = last-snoc (v ∷ ts) t
 
-id-new : (ts : List Token) (t : Token) → ((u : Token) → Mem u ts → 1 ≤ u .id) → idOf ts (t .bytes) ≡ 0 → idOf (ts ++ (t ∷ [])) (t .bytes) ≡ t .id
+id-new : (ts : List Token) (t : Token) → ((u : Token) → Mem u ts → 1 ≤ u .id) → idOf ts (t .bytes) ≡ 0 → idOf (ts ++ (t ∷ [])) (t .bytes)
+    ≡ t .id
 id-new ts t low z = id-snoc ts t (t .bytes) low ∙ yes-case _ _ (eq-eqb (idOf ts (t .bytes)) 0 z) ∙ yes-case _ _ (same-refl (t .bytes))
 
 id-old : (ts : List Token) (t : Token) → ((u : Token) → Mem u ts → 1 ≤ u .id) → (x : List ℕ) → (x ≡ t .bytes → ⊥)
@@ -66,7 +68,8 @@ id-old : (ts : List Token) (t : Token) → ((u : Token) → Mem u ts → 1 ≤ u
 id-old ts t low x ne = id-snoc ts t x low ∙ go (either (eqb (idOf ts x) 0))
   where
     go : Tested (eqb (idOf ts x) 0) → cond (eqb (idOf ts x) 0) (cond (same x (t .bytes)) (t .id) 0) (idOf ts x) ≡ idOf ts x
-    go (inl e) = yes-case _ _ e ∙ no-case _ _ (no-true (same x (t .bytes)) (λ y. ne (same-eq x (t .bytes) y))) ∙ sym (eqb-true (idOf ts x) 0 e)
+    go (inl e) = yes-case _ _ e ∙ no-case _ _ (no-true (same x (t .bytes)) (λ y. ne (same-eq x (t .bytes) y)))
+        ∙ sym (eqb-true (idOf ts x) 0 e)
     go (inr e) = no-case _ _ e
 
 -- no id is above the last
@@ -139,7 +142,8 @@ taken-is : (n : ℕ) → isTaken (idOrNone n) ≡ not (eqb n 0)
 taken-is zero = refl
 taken-is (suc n) = sym (ap not (ne-eqb (suc n) 0 (λ e. omega arith)))
 
-single-cell : (ts : List Token) (s : List ℤ) → take 256 s ≡ singleList ts → (b : ℕ) → b < 256 → getD s b (pos 0) ≡ idOrNone (idOf ts (b ∷ []))
+single-cell : (ts : List Token) (s : List ℤ) → take 256 s ≡ singleList ts → (b : ℕ) → b < 256 → getD s b (pos 0)
+    ≡ idOrNone (idOf ts (b ∷ []))
 unfolding singleList
 single-cell ts s e b h = listed s (λ (c : ℕ). idOrNone (idOf ts (c ∷ []))) 256 e b (pos 0) h
 
@@ -160,7 +164,8 @@ noRoom≢made n e = let z : _≡_ {A = ℕ} 0 1 = cc in omega arith
 
 -- ---- what `enter` finds, for each way it can go
 
-module _ {ts : List Token} {s : List ℤ} {os bl rs ns : List ℕ} {st : Build} (B : Built ts s os bl rs ns st) (t : Token) (r : Reads (lastId ts) t) where
+module _ {ts : List Token} {s : List ℤ} {os bl rs ns : List ℕ} {st : Build} (B : Built ts s os bl rs ns st) (t : Token)
+    (r : Reads (lastId ts) t) where
   low : (u : Token) → Mem u ts → 1 ≤ u .id
   low = B .stands .low
 
@@ -197,13 +202,17 @@ module _ {ts : List Token} {s : List ℤ} {os bl rs ns : List ℕ} {st : Build} 
     unfolding answerFor
     enter-one e = record {
       answer = ap Made (sym count-same)
-          ∙ sym (no-case _ _ (sym cell ∙ e) ∙ yes-case _ _ (le-leb (nodeCount (ts ++ (t ∷ []))) (room ns) (let c = count-same in omega arith)));
-      stands = λ n k. subst (λ (l : List ℕ). Stands (ts ++ (record { id = t .id; bytes = l } ∷ [])) rs ns) (sym bytes-are) (stands-one ts rs ns (t .id) b idl (B .stands));
+          ∙ sym (no-case _ _ (sym cell ∙ e)
+              ∙ yes-case _ _ (le-leb (nodeCount (ts ++ (t ∷ []))) (room ns) (let c = count-same in omega arith)));
+      stands = λ n k. subst (λ (l : List ℕ). Stands (ts ++ (record { id = t .id; bytes = l } ∷ [])) rs ns) (sym bytes-are)
+          (stands-one ts rs ns (t .id) b idl (B .stands));
     }
 
   -- two bytes or more
-  pub enter-more : (cap : ℕ) → cap ≡ min (room ns) 4294967295 → (rs′ ns′ : List ℕ) (a : Inserted) → Grown ts t cap a rs′ ns′ → Grown ts t (room ns) a rs′ ns′
-  enter-more cap e rs′ ns′ a G = record { answer = G .answer ∙ ap (answerFor ts t) e ∙ answer-cap ts (B .valid) t r (room ns); stands = G .stands }
+  pub enter-more : (cap : ℕ) → cap ≡ min (room ns) 4294967295 → (rs′ ns′ : List ℕ) (a : Inserted) → Grown ts t cap a rs′ ns′
+      → Grown ts t (room ns) a rs′ ns′
+  enter-more cap e rs′ ns′ a G = record { answer = G .answer ∙ ap (answerFor ts t) e ∙ answer-cap ts (B .valid) t r (room ns); stands =
+      G .stands }
 
 -- insertion changes no cell behind the roots
 roots-kept : (rs : List ℕ) (at new : ℕ) (p q w : Bool) (a b c d : State) → at < 65536
@@ -269,17 +278,20 @@ module _ (ts : List Token) (t : Token) (ns bl rs′ ns′ : List ℕ) (table : �
         new = p;
         count = (let z : n ≡ nodeCount more = cc in z);
         fits = leb-true (nodeCount more) (room ns) q;
-        blob-decides = ap₂ (λ (x y : Bool). need 16 (not x) (need 17 y (need 18 (leb (length (blobBytes more)) (length bl)) (pass more)))) p q
+        blob-decides = ap₂ (λ (x y : Bool). need 16 (not x) (need 17 y (need 18 (leb (length (blobBytes more)) (length bl)) (pass more))))
+            p q
             ∙ (unfold need in refl);
       }
 
-  pub push-short : (n : ℕ) → Grown ts t (room ns) (Made n) rs′ ns′ → length bl < length (blobBytes ts) + length (t .bytes) → admit R ts t ≡ refuse 18
+  pub push-short : (n : ℕ) → Grown ts t (room ns) (Made n) rs′ ns′ → length bl < length (blobBytes ts) + length (t .bytes) → admit R ts t
+      ≡ refuse 18
   push-short n G h =
       entered n G .blob-decides
       ∙ ap (λ (c : Bool). need 18 c (pass more)) (lt-leb (length (blobBytes more)) (length bl) (let k = total-snoc ts t in omega arith))
       ∙ (unfold need in refl)
 
-  pub push-passes : (n : ℕ) → Grown ts t (room ns) (Made n) rs′ ns′ → length (blobBytes ts) + length (t .bytes) ≤ length bl → admit R ts t ≡ pass more
+  pub push-passes : (n : ℕ) → Grown ts t (room ns) (Made n) rs′ ns′ → length (blobBytes ts) + length (t .bytes) ≤ length bl → admit R ts t
+      ≡ pass more
   push-passes n G h =
       entered n G .blob-decides
       ∙ ap (λ (c : Bool). need 18 c (pass more)) (le-leb (length (blobBytes more)) (length bl) (let k = total-snoc ts t in omega arith))
@@ -287,8 +299,10 @@ module _ (ts : List Token) (t : Token) (ns bl rs′ ns′ : List ℕ) (table : �
 
 -- ---- the token's own cells
 
-module _ {ts : List Token} {s : List ℤ} {os bl rs ns : List ℕ} {st : Build} (B : Built ts s os bl rs ns st) (t : Token) (r : Reads (lastId ts) t)
-    (new : seen ts (t .bytes) ≡ false) (single-fits : 256 ≤ length s) (offsets-fit : 65537 ≤ length os) (blob-fits : st .used + length (t .bytes) ≤ length bl) where
+module _ {ts : List Token} {s : List ℤ} {os bl rs ns : List ℕ} {st : Build} (B : Built ts s os bl rs ns st) (t : Token)
+    (r : Reads (lastId ts) t)
+    (new : seen ts (t .bytes) ≡ false) (single-fits : 256 ≤ length s) (offsets-fit : 65537 ≤ length os)
+        (blob-fits : st .used + length (t .bytes) ≤ length bl) where
   abbrev ts′ : List Token
   ts′ = ts ++ (t ∷ [])
 
@@ -346,7 +360,8 @@ module _ {ts : List Token} {s : List ℤ} {os bl rs ns : List ℕ} {st : Build} 
   single-list : take 256 (setSingle s (t .id) bs) ≡ singleList ts′
   unfolding singleList
   single-list =
-      by-index (setSingle s (t .id) bs) (λ (c : ℕ). idOrNone (idOf ts′ (c ∷ []))) 256 (pos 0) (let e = single-length in omega arith) single-more
+      by-index (setSingle s (t .id) bs) (λ (c : ℕ). idOrNone (idOf ts′ (c ∷ []))) 256 (pos 0) (let e = single-length in omega arith)
+          single-more
 
   -- every id so far is at most the last
   id-last : (u : Token) → Mem u ts → u .id ≤ st .previous
@@ -358,7 +373,8 @@ module _ {ts : List Token} {s : List ℤ} {os bl rs ns : List ℕ} {st : Build} 
       go : Tested (leb i (st .previous)) → getD (setOffsets os (st .previous) (t .id) (st .used)) i 0 ≡ lengthBefore ts′ i
       go (inl e) =
           let p = leb-true i (st .previous) e in
-          run-before (replicate (t .id - st .previous) (st .used)) os (st .previous + 1) i 0 (omega arith) ∙ B .offsets i p ∙ sym (before-snoc ts t i h)
+          run-before (replicate (t .id - st .previous) (st .used)) os (st .previous + 1) i 0 (omega arith) ∙ B .offsets i p
+              ∙ sym (before-snoc ts t i h)
       go (inr e) =
           let p = leb-false i (st .previous) e in
           let a = r .above in
@@ -367,7 +383,8 @@ module _ {ts : List Token} {s : List ℤ} {os bl rs ns : List ℕ} {st : Build} 
           let l = length-replicate (t .id - st .previous) (st .used) in
           let z = r .small in
           ap (λ (x : ℕ). getD (setOffsets os (st .previous) (t .id) (st .used)) x 0) (sym k)
-          ∙ run-in (replicate (t .id - st .previous) (st .used)) os (st .previous + 1) (i - (st .previous + 1)) 0 (omega arith) (omega arith)
+          ∙ run-in (replicate (t .id - st .previous) (st .used)) os (st .previous + 1) (i - (st .previous + 1)) 0 (omega arith)
+              (omega arith)
           ∙ getD-replicate (t .id - st .previous) (i - (st .previous + 1)) (st .used) 0 (omega arith)
           ∙ B .used ∙ sym (before-all ts i (λ u mu. let w = id-last u mu in omega arith)) ∙ sym (before-snoc ts t i h)
 
@@ -407,14 +424,16 @@ single-kept s id bs h = go (eqb (length bs) 1)
     go true = drop-set-lt 256 s (getD bs 0 0) (pos id) h
     go false = refl
 
-pub offsets-kept : (os : List ℕ) (previous id total : ℕ) → previous < id → id < 65536 → drop 65537 (setOffsets os previous id total) ≡ drop 65537 os
+pub offsets-kept : (os : List ℕ) (previous id total : ℕ) → previous < id → id < 65536 → drop 65537 (setOffsets os previous id total)
+    ≡ drop 65537 os
 offsets-kept os previous id total h k =
     run-behind (replicate (id - previous) total) os (previous + 1) 65537 (let l = length-replicate (id - previous) total in omega arith)
 
 -- ---- what `push` answers, for each answer of `enter`
 
 -- a token with an id above the last one and 1 to 255 bytes
-pub reads-of : {ts : List Token} {s : List ℤ} {os bl rs ns : List ℕ} {st : Build} → Built ts s os bl rs ns st → (t : Token) → st .previous < t .id → t .id < 65536
+pub reads-of : {ts : List Token} {s : List ℤ} {os bl rs ns : List ℕ} {st : Build} → Built ts s os bl rs ns st → (t : Token)
+    → st .previous < t .id → t .id < 65536
     → 1 ≤ length (t .bytes) → length (t .bytes) ≤ 255 → Bytes (t .bytes) → Reads (lastId ts) t
 reads-of B t a b c d e = record { above = (let k = B .previous in omega arith); small = b; nonempty = c; short = d; bytes = e }
 
@@ -426,7 +445,8 @@ same-built {ts} {s} {s′} {os} {os′} {bl} {bl′} {rs} {ns} {st} {st′} a b 
     (subst (λ (x : List ℕ). Built ts s os x rs ns st′) (sym c)
     (subst (λ (x : Build). Built ts s os bl rs ns x) (sym d) B)))
 
-module _ {ts : List Token} {s : List ℤ} {os bl rs ns : List ℕ} {st : Build} (B : Built ts s os bl rs ns st) (t : Token) (r : Reads (lastId ts) t)
+module _ {ts : List Token} {s : List ℤ} {os bl rs ns : List ℕ} {st : Build} (B : Built ts s os bl rs ns st) (t : Token)
+    (r : Reads (lastId ts) t)
     (table : ℕ) (rs′ ns′ : List ℕ) (a : Inserted) (G : Grown ts t (room ns) a rs′ ns′) where
   abbrev As : Pushed → List ℤ → List ℕ → List ℕ → Type 0
   As p s′ os′ bl′ = PushedAs (roomFor ns bl table) ts t p s′ os′ bl′ rs′ ns′
@@ -443,17 +463,20 @@ module _ {ts : List Token} {s : List ℤ} {os bl rs ns : List ℕ} {st : Build} 
   pub pushed-short : (n : ℕ) → a ≡ Made n → length bl < st .used + length (t .bytes) → As (Refused 18) s os bl
   pushed-short n e h = push-short ts t ns bl rs′ ns′ table n (now-is e) (let k = B .used in omega arith)
 
-  pub pushed-taken : (n : ℕ) → a ≡ Made n → 256 ≤ length s → 65537 ≤ length os → st .used + length (t .bytes) ≤ length bl → length ns′ ≡ length ns
+  pub pushed-taken : (n : ℕ) → a ≡ Made n → 256 ≤ length s → 65537 ≤ length os → st .used + length (t .bytes) ≤ length bl → length ns′
+      ≡ length ns
       → (s′ : List ℤ) → s′ ≡ setSingle s (t .id) (t .bytes) → (os′ : List ℕ) → os′ ≡ setOffsets os (st .previous) (t .id) (st .used)
       → (bl′ : List ℕ) → bl′ ≡ sets bl (st .used) (t .bytes)
-      → (st′ : Build) → st′ ≡ record { previous = t .id; tokens = st .tokens + 1; made = n; used = st .used + length (t .bytes) } → As (Taken st′) s′ os′ bl′
+      → (st′ : Build) → st′ ≡ record { previous = t .id; tokens = st .tokens + 1; made = n; used = st .used + length (t .bytes) }
+          → As (Taken st′) s′ os′ bl′
   pushed-taken n e fs fo fb same s′ es os′ eo bl′ eb st′ est = (
     push-passes ts t ns bl rs′ ns′ table n (now-is e) (let k = B .used in omega arith),
     same-built es eo eb est (built-more B t r (entered ts t ns bl rs′ ns′ table n (now-is e) .new) fs fo fb n rs′ ns′ (now-is e) same),
   )
 
 -- cells past the fixed lengths, where a token was written
-pub all-kept : {s s′ : List ℤ} {os os′ rs rs′ : List ℕ} (bs : List ℕ) (previous id total : ℕ) → getD bs 0 0 < 256 → previous < id → id < 65536
+pub all-kept : {s s′ : List ℤ} {os os′ rs rs′ : List ℕ} (bs : List ℕ) (previous id total : ℕ) → getD bs 0 0 < 256 → previous < id
+    → id < 65536
     → s′ ≡ setSingle s id bs → os′ ≡ setOffsets os previous id total → drop 65536 rs′ ≡ drop 65536 rs → Kept s os rs s′ os′ rs′
 all-kept {s} {s′} {os} bs previous id total h a b es eo er = record {
   single = ap (drop 256) es ∙ single-kept s id bs h;

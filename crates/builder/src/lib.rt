@@ -157,7 +157,8 @@ fn enter(
     ensures stands { λ r. ⌜ ((ts : List Token) (os bl : List ℕ)
         → Built ts (now (single .entry)) os bl (now (roots .entry)) (now (nodes .entry)) st
         → Reads (lastId ts) (record { id = id; bytes = now (bytes .entry) })
-        → Grown ts (record { id = id; bytes = now (bytes .entry) }) (room (now (nodes .entry))) r (now (roots .exit)) (now (nodes .exit))) ⌝ }
+        → Grown ts (record { id = id; bytes = now (bytes .entry) }) (room (now (nodes .entry))) r (now (roots .exit))
+            (now (nodes .exit))) ⌝ }
     ensures kept { λ r. ⌜ drop 65536 (now (roots .exit)) ≡ drop 65536 (now (roots .entry)) ⌝ }
 {
     let most = capacity(nodes.len());

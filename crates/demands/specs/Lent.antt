@@ -1,5 +1,5 @@
--- Demand 3 of the calls that are lent their stream, `rwkv_fresh`, `rwkv_add` and `rwkv_end`: one claim over every list of calls, each on the
--- stream that the last one left. What their contracts say, the relation `Leaves`, is folded over the list. Assumes nothing.
+-- Demand 3 of the calls that are lent their stream, `rwkv_fresh`, `rwkv_add` and `rwkv_end`: one claim over every list of calls, each on
+-- the stream that the last one left. What their contracts say, the relation `Leaves`, is folded over the list. Assumes nothing.
 use mathlib.Core.Path.{_≡_, sym, _∙_, ap, subst}
 use mathlib.Core.List.{List, [], _∷_}
 use Prim.Native.Nat.{ℕ}

@@ -44,7 +44,8 @@ module _ (k : Walk) (w n : ℕ) where
 follow-within : (table s : List ℕ) (k : Walk) → Within (k .used) k → Within (k .used + length s) (follow table s k)
 unfolding follow
 follow-within table [] k h = within-more (omega arith) h
-follow-within table (b ∷ s) k h = go (goes w b) refl (eqb (baseIn w) 0) refl (follow-within table s next (subst (λ (n : ℕ). Within n next) (sym count) stepped))
+follow-within table (b ∷ s) k h = go (goes w b) refl (eqb (baseIn w) 0) refl
+    (follow-within table s next (subst (λ (n : ℕ). Within n next) (sym count) stepped))
   where
     w : ℕ
     w = getD table (bitXor (k .base) b) 0

@@ -101,6 +101,7 @@ module _ (ts : List Token) (v : Valid ts) (cap made w : ℕ) (rs m₀ t m t' rs'
       fit = let h = T .room in omega arith
 
 -- the cells past the roots stay as they were
-pub roots-behind : (f : ℕ → ℕ) (rs rs' : List ℕ) → 65536 ≤ length rs → rs' ≡ map f (take 65536 rs) ++ drop 65536 rs → drop 65536 rs' ≡ drop 65536 rs
+pub roots-behind : (f : ℕ → ℕ) (rs rs' : List ℕ) → 65536 ≤ length rs → rs' ≡ map f (take 65536 rs) ++ drop 65536 rs → drop 65536 rs'
+    ≡ drop 65536 rs
 roots-behind f rs rs' h e =
     ap (drop 65536) e ∙ drop-at (map f (take 65536 rs)) (drop 65536 rs) 65536 (length-map (take 65536 rs) f ∙ length-take-le 65536 rs h)

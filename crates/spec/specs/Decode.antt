@@ -1,4 +1,5 @@
--- Decoding ids on any memory. Document 01, "Decoding", "Text" and the table's places "decoding, each id" and "text decoding". Assumes nothing.
+-- Decoding ids on any memory. Document 01, "Decoding", "Text" and the table's places "decoding, each id" and "text decoding". Assumes
+-- nothing.
 use mathlib.Core.Bool.{Bool, true, false, _&&_, cond}
 use mathlib.Core.Option.{Option, none, some}
 use mathlib.Core.List.{List, [], _∷_, _++_}

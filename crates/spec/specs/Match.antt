@@ -87,7 +87,8 @@ one (negsuc i) = nothing
 unfoldable pub matchOn : Memory → List ℕ → Match
 unfolding walkOn
 matchOn m [] = nothing
-matchOn m (a ∷ s) = let k = walkOn m (a ∷ s) in elim (eqb (k .id) 0) [ true ↦ one (getD (m .single) a (pos 0)) | false ↦ found (k .id) (k .len) ]
+matchOn m (a ∷ s) = let k = walkOn m (a ∷ s) in elim (eqb (k .id) 0) [ true ↦ one (getD (m .single) a (pos 0)) | false ↦ found (k .id)
+    (k .len) ]
 
 -- ---- undecided
 

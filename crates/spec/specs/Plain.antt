@@ -11,7 +11,8 @@ use Rattle.spec.specs.Token.{Token, joined}
 use Rattle.spec.specs.Scan.{End, done, failed, scan}
 use Rattle.spec.specs.Answer.{Answer, whole}
 use Rattle.spec.specs.Memory.{Memory}
-use Rattle.spec.specs.Stream.{StreamRecord, openPhase, endedPhase, holding, stoppedAt, Call, add, end, pieceOf, outOf, callRefusal, Called, callOn}
+use Rattle.spec.specs.Stream.{StreamRecord, openPhase, endedPhase, holding, stoppedAt, Call, add, end, pieceOf, outOf, callRefusal,
+    Called, callOn}
 
 -- ---- the state
 

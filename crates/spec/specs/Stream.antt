@@ -173,7 +173,8 @@ module _ (m : Memory) (pos b : ℕ) (s : List ℕ) where
   unfolding runOn
   runOn-waits e = rw (e, runOn)
 
-  pub runOn-none : undecidedOn m (b ∷ s) ≡ false → matchOn m (b ∷ s) ≡ nothing → runOn m pos 0 (b ∷ s) ≡ record { ids = []; stop = stuck pos b }
+  pub runOn-none : undecidedOn m (b ∷ s) ≡ false → matchOn m (b ∷ s) ≡ nothing → runOn m pos 0 (b ∷ s)
+      ≡ record { ids = []; stop = stuck pos b }
   unfolding runOn
   runOn-none d e = rw (d, runOn) (rw e)
 

@@ -22,7 +22,8 @@ use Rattle.spec.specs.Decode.{Decoding, lookup, decoding}
 use Rattle.spec.specs.Decode as decode
 use Rattle.spec.specs.Load.{Room, Place, byte, Outcome, accepted, refused, load, loadOn}
 use Rattle.spec.specs.Stream.{StreamRecord, Call, callRefusal, fresh}
-use Rattle.spec.specs.Plain.{Phase, opened, stopped, ended, Plain, start, Sure, Fails, Certain, Reply, Steps, Follows, handed, repliesOn, BytePieces, recordOf}
+use Rattle.spec.specs.Plain.{Phase, opened, stopped, ended, Plain, start, Sure, Fails, Certain, Reply, Steps, Follows, handed,
+    repliesOn, BytePieces, recordOf}
 
 -- ── Matching ─────────────────────────────────────────────────────────
 
@@ -66,7 +67,8 @@ RoundTrip = (ts : List Token) → Valid ts → (s : List ℕ) → scan ts s .end
 -- A scan that fails at k: its ids are those of the first k bytes, and decode to them; the byte is the one there.
 abbrev pub UpToFailure : Type 0
 UpToFailure = (ts : List Token) → Valid ts → (s : List ℕ) (k b : ℕ) → scan ts s .end ≡ failed k b
-    → (k < length s) × (getD s k 0 ≡ b) × (scan ts (take k s) ≡ record { ids = scan ts s .ids; end = done }) × (joined ts (scan ts s .ids) ≡ take k s)
+    → (k < length s) × (getD s k 0 ≡ b) × (scan ts (take k s) ≡ record { ids = scan ts s .ids; end = done })
+        × (joined ts (scan ts s .ids) ≡ take k s)
 
 -- ── Decoding ─────────────────────────────────────────────────────────
 
@@ -76,7 +78,8 @@ Looking = (m : Memory) (ts : List Token) → Loaded m ts → (i : ℕ) → looku
 
 -- A list of present ids decodes to its tokens joined, where these fit.
 abbrev pub DecodingJoins : Type 0
-DecodingJoins = (m : Memory) (ts : List Token) → Loaded m ts → (ids : List ℕ) → all (present ts) ids ≡ true → (n : ℕ) → length (joined ts ids) ≤ n
+DecodingJoins = (m : Memory) (ts : List Token) → Loaded m ts → (ids : List ℕ) → all (present ts) ids ≡ true → (n : ℕ)
+    → length (joined ts ids) ≤ n
     → decoding m n ids ≡ record { bytes = joined ts ids; end = decode.complete }
 
 -- Another list stops at its first absent id, 27, where what stands before it fits.
@@ -95,7 +98,8 @@ DecodingFills = (m : Memory) (ts : List Token) → Loaded m ts → (ids : List �
 
 -- The tokens of an accepted text are a valid vocabulary.
 abbrev pub LoadsValid : Type 0
-LoadsValid = (partial : Bool) (room : Room) (text : List ℕ) → Bytes text → (ts : List Token) → load partial room text ≡ accepted ts → Valid ts
+LoadsValid = (partial : Bool) (room : Room) (text : List ℕ) → Bytes text → (ts : List Token) → load partial room text ≡ accepted ts
+    → Valid ts
 
 -- An accepted load leaves loaded memory: from a text to the theorems on matching, encoding and decoding.
 abbrev pub LoadsLoaded : Type 0

@@ -13,7 +13,8 @@ use Rattle.spec.specs.Scan.{Stop, waiting, stuck, Run}
 use Rattle.spec.specs.Memory.{Memory, tooShort}
 use Rattle.spec.specs.Match.{Match, nothing, found, matchOn, undecidedOn}
 use Rattle.spec.specs.Stream as spec
-use Rattle.spec.specs.Stream.{StreamRecord, Call, add, end, added, runOn, runOn-waits, runOn-none, runOn-some, unchanged, callRefusal, goesThrough, callOn}
+use Rattle.spec.specs.Stream.{StreamRecord, Call, add, end, added, runOn, runOn-waits, runOn-none, runOn-some, unchanged, callRefusal,
+    goesThrough, callOn}
 use Rattle.stream.specs.declared.Called.{Called}
 use Rattle.stream.specs.Answers.{recordOf, answerOf, Answered}
 use Rattle.stream.specs.Running.{Hands}
@@ -22,10 +23,13 @@ use Rattle.stream.proofs.Adding.{sets-over}
 
 module _ (m : Memory) (r : StreamRecord) (c : Call) (d : Called) (lent : List ℕ) where
   pub gives-short : tooShort m ≡ true → answerOf (d .answer) ≡ bare 1 → recordOf (d .stream) ≡ r → Answered (callOn m r c) d lent lent
-  gives-short e a s = subst (λ (x : spec.Called). Answered x d lent lent) (sym (call-short m r c e)) (record { answer = a; stream = s; cells = refl })
+  gives-short e a s = subst (λ (x : spec.Called). Answered x d lent lent) (sym (call-short m r c e))
+      (record { answer = a; stream = s; cells = refl })
 
-  pub gives-refused : tooShort m ≡ false → (a : Answer) → some a ≡ callRefusal r c → answerOf (d .answer) ≡ a → recordOf (d .stream) ≡ r → Answered (callOn m r c) d lent lent
-  gives-refused l a e b s = subst (λ (x : spec.Called). Answered x d lent lent) (sym (call-refused m r c l a e)) (record { answer = b; stream = s; cells = refl })
+  pub gives-refused : tooShort m ≡ false → (a : Answer) → some a ≡ callRefusal r c → answerOf (d .answer) ≡ a → recordOf (d .stream) ≡ r
+      → Answered (callOn m r c) d lent lent
+  gives-refused l a e b s = subst (λ (x : spec.Called). Answered x d lent lent) (sym (call-refused m r c l a e))
+      (record { answer = b; stream = s; cells = refl })
 
 -- ── Add ──────────────────────────────────────────────────────────────
 
@@ -36,14 +40,16 @@ few-ids m pos k [] = omega arith
 few-ids m pos (suc k) (b ∷ s) = let h = few-ids m (suc pos) k s in omega arith
 few-ids m pos zero (b ∷ s) = go (undecidedOn m (b ∷ s)) refl (matchOn m (b ∷ s)) refl (λ n. few-ids m (suc pos) n s)
   where
-    go : (u : Bool) → undecidedOn m (b ∷ s) ≡ u → (t : Match) → matchOn m (b ∷ s) ≡ t → ((n : ℕ) → length (runOn m (suc pos) n s .ids) ≤ length s - n)
+    go : (u : Bool) → undecidedOn m (b ∷ s) ≡ u → (t : Match) → matchOn m (b ∷ s) ≡ t
+        → ((n : ℕ) → length (runOn m (suc pos) n s .ids) ≤ length s - n)
         → length (runOn m pos 0 (b ∷ s) .ids) ≤ suc (length s) - 0
     go true u t e h = let w = ap (λ (x : Run). length (x .ids)) (runOn-waits m pos b s u) in omega arith
     go false u nothing e h = let w = ap (λ (x : Run). length (x .ids)) (runOn-none m pos b s u e) in omega arith
     go false u (found i n) e h = let w = ap (λ (x : Run). length (x .ids)) (runOn-some m pos b s i n u e) in omega (arith, h (pred n))
 
 through-add : (m : Memory) (r : StreamRecord) (piece out : List ℕ)
-    → goesThrough m r (add piece out) ≡ (let u = runOn m (r .total - r .heldLen) 0 (take (r .heldLen) (r .held) ++ piece) in added (r .total + length piece) (u .ids) (u .stop))
+    → goesThrough m r (add piece out) ≡ (let u = runOn m (r .total - r .heldLen) 0 (take (r .heldLen) (r .held) ++ piece) in added
+        (r .total + length piece) (u .ids) (u .stop))
 unfolding goesThrough
 through-add m r piece out = refl
 
@@ -57,7 +63,8 @@ added-ids total u = go (u .stop)
 module _ (m : Memory) (r : StreamRecord) (piece lent : List ℕ) (long : tooShort m ≡ false) (goes : none ≡ callRefusal r (add piece lent))
     (many : length (take (r .heldLen) (r .held)) ≡ r .heldLen) where
   pub gives-added : (out : List ℕ) (d : Called)
-      → Hands (r .total + length piece) [] (runOn m (r .total - length (take (r .heldLen) (r .held))) 0 (take (r .heldLen) (r .held) ++ piece)) lent out d
+      → Hands (r .total + length piece) [] (runOn m (r .total - length (take (r .heldLen) (r .held))) 0 (take (r .heldLen) (r .held)
+          ++ piece)) lent out d
       → Answered (callOn m r (add piece lent)) d lent out
   gives-added out d h =
       let held : List ℕ = take (r .heldLen) (r .held) in
@@ -71,5 +78,6 @@ module _ (m : Memory) (r : StreamRecord) (piece lent : List ℕ) (long : tooShor
       (record {
         answer = w .answer;
         stream = w .stream;
-        cells = w .written ∙ sets-over (u .ids) lent (omega arith) ∙ ap (λ (x : List ℕ). over x lent) (sym (added-ids (r .total + length piece) u));
+        cells = w .written ∙ sets-over (u .ids) lent (omega arith)
+            ∙ ap (λ (x : List ℕ). over x lent) (sym (added-ids (r .total + length piece) u));
       })

@@ -51,7 +51,8 @@ module _ (m : Memory) (src : List ℕ) (i : ℕ) (h : i < length src) where
         ∙ ap₂ (λ (x : Walk) (n : ℕ). eqb (x .used) n && (not (eqb (x .base) 0) && ltb n 255)) (sym w) d
 
     pub at-unused : (k .used ≡ length src - i → ⊥) → false ≡ undecidedOn m (drop i src)
-    at-unused u = sym (rest ∙ ap (λ (x : Bool). x && (not (eqb (k .base) 0) && ltb (length src - i) 255)) (ne-eqb (k .used) (length src - i) u))
+    at-unused u = sym (rest ∙ ap (λ (x : Bool). x && (not (eqb (k .base) 0) && ltb (length src - i) 255))
+        (ne-eqb (k .used) (length src - i) u))
 
     pub at-used : k .used ≡ length src - i → length src - i < 255 → not (eqb (k .base) 0) ≡ undecidedOn m (drop i src)
     at-used u l =

@@ -14,7 +14,8 @@ use Rattle.spec.specs.Memory.{Memory, tooShort}
 use Rattle.spec.specs.Match.{Match, nothing, found, matchOn}
 use Rattle.spec.specs.Encode.{EncodeEnd, complete, unmatched, full, Encoding, encoded, encodeAt, encoding, encodeAnswer, Output, encodeOn}
 use Rattle.spec.specs.Stream as spec
-use Rattle.spec.specs.Stream.{StreamRecord, end, holding, stoppedAt, closed, scanOn, scanOn-none, scanOn-some, callRefusal, goesThrough, callOn}
+use Rattle.spec.specs.Stream.{StreamRecord, end, holding, stoppedAt, closed, scanOn, scanOn-none, scanOn-some, callRefusal, goesThrough,
+    callOn}
 use Rattle.stream.specs.declared.Called.{Called}
 use Rattle.stream.specs.declared.Answer.the-variants.{Taken, Stopped}
 use Rattle.stream.specs.Answers.{recordOf, answerOf, Answered}
@@ -36,7 +37,8 @@ roomy m n pos (suc k) (b ∷ s) h = roomy m n (suc pos) k s (omega arith)
 roomy m zero pos zero (b ∷ s) h = absurd (omega arith)
 roomy m (suc n) pos zero (b ∷ s) h = go (matchOn m (b ∷ s)) refl (λ k. roomy m n (suc pos) k s)
   where
-    go : (t : Match) → matchOn m (b ∷ s) ≡ t → ((k : ℕ) → length s - k ≤ n → encodeAt m n (suc pos) k s ≡ encodingOf (scanOn m (suc pos) k s))
+    go : (t : Match) → matchOn m (b ∷ s) ≡ t → ((k : ℕ) → length s - k ≤ n → encodeAt m n (suc pos) k s
+        ≡ encodingOf (scanOn m (suc pos) k s))
         → encodeAt m (suc n) pos 0 (b ∷ s) ≡ encodingOf (scanOn m pos 0 (b ∷ s))
     go nothing e f = rw (e, encodeAt) (ap encodingOf (sym (scanOn-none m pos b s e)))
     go (found i l) e f = rw (e, encodeAt) (ap (encoded i) (f (pred l) (omega arith)) ∙ ap encodingOf (sym (scanOn-some m pos b s i l e)))
@@ -53,7 +55,8 @@ later d u = record { ids = u .ids; end = laterEnd d (u .end) }
 shifts : (m : Memory) (d pos k : ℕ) (s : List ℕ) → scanOn m (d + pos) k s ≡ later d (scanOn m pos k s)
 unfolding scanOn
 shifts m d pos k [] = refl
-shifts m d pos (suc k) (b ∷ s) = let e : suc (d + pos) ≡ d + suc pos = omega arith in ap (λ (p : ℕ). scanOn m p k s) e ∙ shifts m d (suc pos) k s
+shifts m d pos (suc k) (b ∷ s) = let e : suc (d + pos) ≡ d + suc pos = omega arith in ap (λ (p : ℕ). scanOn m p k s) e
+    ∙ shifts m d (suc pos) k s
 shifts m d pos zero (b ∷ s) = go (matchOn m (b ∷ s)) refl (λ k. shifts m d (suc pos) k s)
   where
     go : (t : Match) → matchOn m (b ∷ s) ≡ t → ((k : ℕ) → scanOn m (d + suc pos) k s ≡ later d (scanOn m (suc pos) k s))
@@ -61,7 +64,8 @@ shifts m d pos zero (b ∷ s) = go (matchOn m (b ∷ s)) refl (λ k. shifts m d 
     go nothing e f = scanOn-none m (d + pos) b s e ∙ ap (later d) (sym (scanOn-none m pos b s e))
     go (found i l) e f =
         let p : suc (d + pos) ≡ d + suc pos = omega arith in
-        scanOn-some m (d + pos) b s i l e ∙ ap (scanned i) (ap (λ (x : ℕ). scanOn m x (pred l) s) p ∙ f (pred l)) ∙ ap (later d) (sym (scanOn-some m pos b s i l e))
+        scanOn-some m (d + pos) b s i l e ∙ ap (scanned i) (ap (λ (x : ℕ). scanOn m x (pred l) s) p ∙ f (pred l))
+            ∙ ap (later d) (sym (scanOn-some m pos b s i l e))
 
 -- a scan fails at one of its bytes
 fails-within : (m : Memory) (pos k : ℕ) (s : List ℕ) (p b : ℕ) → scanOn m pos k s .end ≡ failed p b → p < pos + length s
@@ -70,7 +74,8 @@ fails-within m pos k [] p b e = let z : _≡_ {A = ℕ} 0 1 = cc in absurd (omeg
 fails-within m pos (suc k) (a ∷ s) p b e = let h = fails-within m (suc pos) k s p b e in omega arith
 fails-within m pos zero (a ∷ s) p b e = go (matchOn m (a ∷ s)) refl (λ k. fails-within m (suc pos) k s p b)
   where
-    go : (t : Match) → matchOn m (a ∷ s) ≡ t → ((k : ℕ) → scanOn m (suc pos) k s .end ≡ failed p b → p < suc pos + length s) → p < pos + suc (length s)
+    go : (t : Match) → matchOn m (a ∷ s) ≡ t → ((k : ℕ) → scanOn m (suc pos) k s .end ≡ failed p b → p < suc pos + length s)
+        → p < pos + suc (length s)
     go nothing w f = let q = sym (ap (λ (u : Scan). u .end) (scanOn-none m pos a s w)) ∙ e in let r : pos ≡ p = cc in omega arith
     go (found i l) w f = let h = f (pred l) (sym (ap (λ (u : Scan). u .end) (scanOn-some m pos a s i l w)) ∙ e) in omega arith
 
@@ -107,7 +112,8 @@ module _ (m : Memory) (s : List ℕ) (n : ℕ) (long : tooShort m ≡ false) (ro
       go done w = let z = ap (λ (a : Answer). a .number) (e ∙ its-answer done w) in absurd (omega arith)
       go (failed p b) w =
           let q = e ∙ its-answer (failed p b) w in
-          let x : scanOn m 0 0 s .end ≡ failed offset byte = w ∙ sym (ap₂ failed (ap (λ (a : Answer). a .place) q) (ap (λ (a : Answer). a .value) q)) in
+          let x : scanOn m 0 0 s .end ≡ failed offset byte = w
+              ∙ sym (ap₂ failed (ap (λ (a : Answer). a .place) q) (ap (λ (a : Answer). a .value) q)) in
           (x, ap (λ (a : Answer). a .count) q, omega (arith, fails-within m 0 0 s offset byte x))
 
   -- it has no other answer
@@ -120,8 +126,10 @@ module _ (m : Memory) (s : List ℕ) (n : ℕ) (long : tooShort m ≡ false) (ro
 
 -- ── The call ─────────────────────────────────────────────────────────
 
-module _ (m : Memory) (r : StreamRecord) (lent out : List ℕ) (d : Called) (long : tooShort m ≡ false) (goes : none ≡ callRefusal r (end lent))
-    (room : length (take (r .heldLen) (r .held)) ≤ length lent) (written : out ≡ over (encodeOn m (length lent) (take (r .heldLen) (r .held)) .cells) lent) where
+module _ (m : Memory) (r : StreamRecord) (lent out : List ℕ) (d : Called) (long : tooShort m ≡ false) (goes : none
+    ≡ callRefusal r (end lent))
+    (room : length (take (r .heldLen) (r .held)) ≤ length lent) (written : out
+        ≡ over (encodeOn m (length lent) (take (r .heldLen) (r .held)) .cells) lent) where
   abbrev held : List ℕ
   held = take (r .heldLen) (r .held)
 
@@ -146,7 +154,8 @@ module _ (m : Memory) (r : StreamRecord) (lent out : List ℕ) (d : Called) (lon
       subst (λ (x : spec.Called). Answered x d lent out) (sym (comes done (w .0)))
       (record { answer = ap answerOf (g .0) ∙ ap whole (w .1); stream = g .1; cells = cells })
 
-  pub gives-stopped : (count offset byte place : ℕ) → record { number = 22; count = count; place = offset; value = byte } ≡ encodeOn m (length lent) held .answer
+  pub gives-stopped : (count offset byte place : ℕ) → record { number = 22; count = count; place = offset; value = byte }
+      ≡ encodeOn m (length lent) held .answer
       → place ≡ r .total - r .heldLen + offset
       → (d .answer ≡ Stopped count place byte) × (recordOf (d .stream) ≡ stoppedAt (r .total) place byte)
       → Answered (callOn m r (end lent)) d lent out

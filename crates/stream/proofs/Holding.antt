@@ -15,7 +15,8 @@ length-as (x ∷ l) = ap suc (length-as l)
 drop-replicate : (n k a : ℕ) → k ≤ n → drop k (replicate n a) ≡ replicate (n - k) a
 drop-replicate n zero a h = let e : n ≡ n - 0 = omega arith in ap (λ (j : ℕ). replicate j a) e
 drop-replicate zero (suc k) a h = absurd (omega arith)
-drop-replicate (suc n) (suc k) a h = let e : n - k ≡ suc n - suc k = omega arith in drop-replicate n k a (omega arith) ∙ ap (λ (j : ℕ). replicate j a) e
+drop-replicate (suc n) (suc k) a h = let e : n - k ≡ suc n - suc k = omega arith in drop-replicate n k a (omega arith)
+    ∙ ap (λ (j : ℕ). replicate j a) e
 
 -- bytes copied to the start of 254 zeros
 pub held-padded : (rest : List ℕ) → length rest ≤ 254 → paste (replicate 254 0) 0 rest (length rest) ≡ padded rest 254

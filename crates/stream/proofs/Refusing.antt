@@ -70,11 +70,15 @@ module _ (r : StreamRecord) (piece out : List ℕ) where
       module _ (e : r .total + length piece ≤ 4294967295) where
         pub is-output-short : length out < r .heldLen + length piece → some (bare 24) ≡ callRefusal r (add piece out)
         unfolding callRefusal
-        is-output-short h = rw (going, callRefusal) (rw (ne-eqb (r .phase) 1 d) (rw (le-ltb 4294967295 (r .total + length piece) e) (rw (lt-ltb (length out) (r .heldLen + length piece) h))))
+        is-output-short h = rw (going, callRefusal)
+            (rw (ne-eqb (r .phase) 1 d) (rw (le-ltb 4294967295 (r .total + length piece) e)
+            (rw (lt-ltb (length out) (r .heldLen + length piece) h))))
 
         pub is-none : r .heldLen + length piece ≤ length out → none ≡ callRefusal r (add piece out)
         unfolding callRefusal
-        is-none h = rw (going, callRefusal) (rw (ne-eqb (r .phase) 1 d) (rw (le-ltb 4294967295 (r .total + length piece) e) (rw (le-ltb (length out) (r .heldLen + length piece) h))))
+        is-none h = rw (going, callRefusal)
+            (rw (ne-eqb (r .phase) 1 d) (rw (le-ltb 4294967295 (r .total + length piece) e)
+            (rw (le-ltb (length out) (r .heldLen + length piece) h))))
 
 -- ── A call that goes through ─────────────────────────────────────────
 
@@ -84,7 +88,8 @@ absurd-none e = let z : _≡_ {A = ℕ} 0 1 = cc in absurd (omega arith)
 module _ (r : StreamRecord) (piece out : List ℕ) where
   pub passes : none ≡ callRefusal r (add piece out) → Passes r (length piece) (length out)
   unfolding callRefusal
-  passes n = go (hasEnded r) refl (eqb (r .phase) 1) refl (ltb 4294967295 (r .total + length piece)) refl (ltb (length out) (r .heldLen + length piece)) refl
+  passes n = go (hasEnded r) refl (eqb (r .phase) 1) refl (ltb 4294967295 (r .total + length piece)) refl
+      (ltb (length out) (r .heldLen + length piece)) refl
     where
       go : (a : Bool) → hasEnded r ≡ a → (b : Bool) → eqb (r .phase) 1 ≡ b
           → (c : Bool) → ltb 4294967295 (r .total + length piece) ≡ c → (d : Bool) → ltb (length out) (r .heldLen + length piece) ≡ d

@@ -35,7 +35,8 @@ module _ (m : Memory) (pos : ℕ) (S : List ℕ) (i : ℕ) (h : i < length S) wh
       ∙ runOn-waits m (pos + i) (getD S i 0) (drop (suc i) S) (ap (undecidedOn m) (sym here) ∙ u)
       ∙ ap (λ (s : List ℕ). record { ids = []; stop = waiting (pos + i) s }) (sym here)
 
-  from-none : undecidedOn m (drop i S) ≡ false → matchOn m (drop i S) ≡ nothing → runFrom m pos S i ≡ record { ids = []; stop = stuck (pos + i) (getD S i 0) }
+  from-none : undecidedOn m (drop i S) ≡ false → matchOn m (drop i S) ≡ nothing → runFrom m pos S i
+      ≡ record { ids = []; stop = stuck (pos + i) (getD S i 0) }
   from-none u e =
       ap (runOn m (pos + i) 0) here
       ∙ runOn-none m (pos + i) (getD S i 0) (drop (suc i) S) (ap (undecidedOn m) (sym here) ∙ u) (ap (matchOn m) (sym here) ∙ e)
@@ -62,7 +63,8 @@ pub record Stands (m : Memory) (src : List ℕ) (from stop start : ℕ) (lent ou
   pub place : i ≤ length src
   pub runs : Runs m src stop from (λ S pos. prepend ids (runFrom m pos S i))
 
-pub stands-first : (m : Memory) (src : List ℕ) (from stop start : ℕ) (lent : List ℕ) → from ≤ length src → Stands m src from stop start lent lent from start
+pub stands-first : (m : Memory) (src : List ℕ) (from stop start : ℕ) (lent : List ℕ) → from ≤ length src
+    → Stands m src from stop start lent lent from start
 stands-first m src from stop start lent h =
     record { ids = []; written = refl; count = sym (add-zero start); few = omega arith; place = h; runs = λ S pos a. refl }
 
@@ -72,10 +74,12 @@ sets-snoc (w ∷ vs) l at v =
     let e : suc at + length vs ≡ at + suc (length vs) = omega arith in
     sets-snoc vs (set l at w) (suc at) v ∙ ap (λ (k : ℕ). set (sets (set l at w) (suc at) vs) k v) e
 
-module _ (m : Memory) (src : List ℕ) (from stop start : ℕ) (lent out : List ℕ) (i n : ℕ) (w : Stands m src from stop start lent out i n) where
+module _ (m : Memory) (src : List ℕ) (from stop start : ℕ) (lent out : List ℕ) (i n : ℕ) (w : Stands m src from stop start lent out i
+    n) where
   module _ (h : i < stop) (long : stop ≤ length src) where
     -- a token is found: its id is written, and the loop goes on behind it
-    pub stands-next : (id len : ℕ) → undecidedOn m (drop i src) ≡ false → matchOn m (drop i src) ≡ found id len → 1 ≤ len → len ≤ length (drop i src)
+    pub stands-next : (id len : ℕ) → undecidedOn m (drop i src) ≡ false → matchOn m (drop i src) ≡ found id len → 1 ≤ len
+        → len ≤ length (drop i src)
         → Stands m src from stop start lent (set out n id) (i + len) (n + 1)
     stands-next id len u e l k =
         let c = w .count in
@@ -91,7 +95,8 @@ module _ (m : Memory) (src : List ℕ) (from stop start : ℕ) (lent out : List 
           runs = λ S pos a. let q = a .long in
               w .runs S pos a
               ∙ ap (prepend (w .ids)) (from-some m pos S i (omega arith) id len (a .undecided i h ∙ u) (a .matched i h ∙ e) l (omega arith))
-              ∙ ap (λ (x : List ℕ). record { ids = x; stop = runFrom m pos S (i + len) .stop }) (sym (append-assoc (w .ids) (id ∷ []) (runFrom m pos S (i + len) .ids)));
+              ∙ ap (λ (x : List ℕ). record { ids = x; stop = runFrom m pos S (i + len) .stop })
+                  (sym (append-assoc (w .ids) (id ∷ []) (runFrom m pos S (i + len) .ids)));
         }
 
     pub ends-waiting : undecidedOn m (drop i src) ≡ true → RunsTo m src from stop start lent out (Waiting i n)
@@ -109,7 +114,8 @@ module _ (m : Memory) (src : List ℕ) (from stop start : ℕ) (lent out : List 
       );
     }
 
-    pub ends-stuck : undecidedOn m (drop i src) ≡ false → matchOn m (drop i src) ≡ nothing → RunsTo m src from stop start lent out (Stuck i n)
+    pub ends-stuck : undecidedOn m (drop i src) ≡ false → matchOn m (drop i src) ≡ nothing
+        → RunsTo m src from stop start lent out (Stuck i n)
     ends-stuck u e = record {
       ids = w .ids;
       written = w .written;

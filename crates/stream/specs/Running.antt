@@ -41,7 +41,8 @@ abbrev pub Comes : Memory → List ℕ → ℕ → ℕ → List ℕ → Ran → 
 Comes m src from stop ids (Through at count) =
     (stop ≤ at) × (at ≤ length src) × Runs m src stop from (λ S pos. prepend ids (runFrom m pos S at))
 Comes m src from stop ids (Waiting at count) =
-    (at < stop) × (undecidedOn m (drop at src) ≡ true) × Runs m src stop from (λ S pos. record { ids = ids; stop = waiting (pos + at) (drop at S) })
+    (at < stop) × (undecidedOn m (drop at src) ≡ true)
+        × Runs m src stop from (λ S pos. record { ids = ids; stop = waiting (pos + at) (drop at S) })
 Comes m src from stop ids (Stuck at count) =
     (at < stop) × Runs m src stop from (λ S pos. record { ids = ids; stop = stuck (pos + at) (getD src at 0) })
 
@@ -63,7 +64,8 @@ pub record RunsTo (m : Memory) (src : List ℕ) (from stop start : ℕ) (lent ou
   pub few : from + length ids ≤ placeOf r
   pub comes : Comes m src from stop ids r
 
--- what an add hands back that has written the ids `before` and whose bytes left run to u: its answer and record, the ids of u behind the others
+-- what an add hands back that has written the ids `before` and whose bytes left run to u: its answer and record, the ids of u behind the
+-- others
 pub record Hands (total : ℕ) (before : List ℕ) (u : Run) (lent out : List ℕ) (r : Called) : Type 0 where
   pub answer : answerOf (r .answer) ≡ added total (before ++ u .ids) (u .stop) .answer
   pub stream : recordOf (r .stream) ≡ added total (before ++ u .ids) (u .stop) .stream

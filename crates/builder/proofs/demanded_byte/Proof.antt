@@ -14,7 +14,8 @@ missing-byte-requires : tie.Need-missing-byte-requires
 missing-byte-requires c κs = search needs
 
 returns-2 : tie.Need-returns-2
-returns-2 c = c .missing-byte .ensures ∙ ap (λ (p : Bool). demanded p (missingOn (c .before .before .args .single .now) 256 0)) (sym (c .before .if1 .left))
+returns-2 c = c .missing-byte .ensures ∙ ap (λ (p : Bool). demanded p (missingOn (c .before .before .args .single .now) 256 0))
+    (sym (c .before .if1 .left))
 
 pub demanded-byte-spec : {M : Type 1} → statement M
 demanded-byte-spec = tie.close (tie.spec returns missing-byte-requires returns-2)

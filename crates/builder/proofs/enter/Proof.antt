@@ -1,4 +1,5 @@
--- `builder::enter` meets its contract, for each way it can go: no room for node 0, one byte seen before or new, more bytes. Assumes nothing.
+-- `builder::enter` meets its contract, for each way it can go: no room for node 0, one byte seen before or new, more bytes. Assumes
+-- nothing.
 use borrow.Author.Needs.{needs}
 use mathlib.Core.Path.{refl, sym, ap, _∙_}
 use native.Mathlib.Omega.{arith}
@@ -35,15 +36,21 @@ taken-requires c κs = search needs
 
 returns-2 : tie.Need-returns-2
 returns-2 c =
-    let cell = toZ-ofZ {w = w32} {z = getD (c .before .before .before .before .before .before .before .before .before .before .before .before .args .single .now) (c .before .before .before .place .result) (pos 0)} (sfits-of (c .before .before .taken-arg .given)) in
+    let cell = toZ-ofZ {w = w32} {z = getD
+        (c .before .before .before .before .before .before .before .before .before .before .before .before .args .single .now)
+        (c .before .before .before .place .result) (pos 0)} (sfits-of (c .before .before .taken-arg .given)) in
     let test = sym (c .before .taken .ensures ∙ ap isTaken cell) in
-    ((λ ts os bl B r. enter-twice B _ r (omega arith) (c .before .before .before .before .before .if2 .taken) _ (c .before .before .before .place .ensures) (test ∙ c .if3 .taken)), refl)
+    ((λ ts os bl B r. enter-twice B _ r (omega arith) (c .before .before .before .before .before .if2 .taken) _
+        (c .before .before .before .place .ensures) (test ∙ c .if3 .taken)), refl)
 
 returns-3 : tie.Need-returns-3
 returns-3 c =
-    let cell = toZ-ofZ {w = w32} {z = getD (c .before .before .before .before .before .before .before .before .before .before .before .before .args .single .now) (c .before .before .before .place .result) (pos 0)} (sfits-of (c .before .before .taken-arg .given)) in
+    let cell = toZ-ofZ {w = w32} {z = getD
+        (c .before .before .before .before .before .before .before .before .before .before .before .before .args .single .now)
+        (c .before .before .before .place .result) (pos 0)} (sfits-of (c .before .before .taken-arg .given)) in
     let test = sym (c .before .taken .ensures ∙ ap isTaken cell) in
-    ((λ ts os bl B r. enter-one B _ r (omega arith) (c .before .before .before .before .before .if2 .taken) _ (c .before .before .before .place .ensures) (test ∙ c .if3 .left)), refl)
+    ((λ ts os bl B r. enter-one B _ r (omega arith) (c .before .before .before .before .before .if2 .taken) _
+        (c .before .before .before .place .ensures) (test ∙ c .if3 .left)), refl)
 
 insert-requires : tie.Need-insert-requires
 insert-requires c κs = search needs
@@ -57,7 +64,9 @@ same-length-2 c = search needs
 returns-4 : tie.Need-returns-4
 returns-4 c =
     let known = c .before .before .before .before .before .before .before .before .before .before .before .shared-slice-known .given in (
-      (λ ts os bl B r. enter-more B _ r _ (c .before .before .before .before .before .before .before .before .before .before .capacity .ensures) _ _ _ (c .before .before .before .before .insert .ensures .0 ts (B .stands) (B .made) (let a = r .above in omega arith))),
+      (λ ts os bl B r. enter-more B _ r _
+          (c .before .before .before .before .before .before .before .before .before .before .capacity .ensures) _ _ _
+          (c .before .before .before .before .insert .ensures .0 ts (B .stands) (B .made) (let a = r .above in omega arith))),
       insert-keeps _ _ _ _ _ _ ((known 0) .fits) ((known 1) .fits) _ _ _ (c .before .before .before .before .insert .ensures .1),
     )
 

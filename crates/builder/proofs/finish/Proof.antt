@@ -9,7 +9,8 @@ use Rattle.builder.proofs.finish.Statement.{statement}
 use Rattle.builder.proofs.finish.Tie as tie
 
 returns : tie.Need-returns
-returns c = ((λ blob most ts e B. finished-none _ most B [] [] [] [] (c .if1 .taken)), record { single = refl; offsets = refl; roots = refl })
+returns c = ((λ blob most ts e B. finished-none _ most B [] [] [] [] (c .if1 .taken)), record
+    { single = refl; offsets = refl; roots = refl })
 
 demanded-byte-requires : tie.Need-demanded-byte-requires
 demanded-byte-requires c κs = search needs
@@ -33,7 +34,9 @@ enum-told-2 : tie.Need-enum-told-2
 enum-told-2 c = search needs
 
 returns-2 : tie.Need-returns-2
-returns-2 c = ((λ blob most ts e B. finished-wanting _ most B [] [] [] [] (c .before .before .before .before .if1 .left) _ (c .before .before .before .demanded-byte .ensures) _ (c .before .missing .given .1)), record { single = refl; offsets = refl; roots = refl })
+returns-2 c = ((λ blob most ts e B. finished-wanting _ most B [] [] [] [] (c .before .before .before .before .if1 .left) _
+    (c .before .before .before .demanded-byte .ensures) _ (c .before .missing .given .1)), record
+    { single = refl; offsets = refl; roots = refl })
 
 same-length : tie.Need-same-length
 same-length c = search needs
@@ -58,10 +61,14 @@ returns-3 c =
     let p = c .before .before .before .before .before .before .before .before .before .before .before .before .before .before .before .before .before .before .before .before .before .before .before .before .before .before .before .before .before .before .before .before .before .before .pre in
     let a = c .before .before .before .before .before .before .before .before .before .before .before .before .before .before .before .before .before .before .before .before .before .before .before .before .before .before .before .before .before .before .before .before .before .before .args in
     let eo = c .before .before .before .before .before .before .before .before .before .before .before .before .before .before .before .before .before .before .before .before .before .set-total .ensures in
-    let small : a .st .previous < 65536 = c .before .before .before .before .before .before .before .before .before .before .before .before .before .before .before .before .before .before .before .before .before .before .before .before .before .before .before .struct-known .given .0 .fits in (
-      (λ blob most ts e B. finished-packs _ most B _ _ _ _ (c .before .before .before .before .before .before .before .before .before .before .before .before .before .before .before .before .before .before .before .before .before .before .before .before .before .before .if1 .left) _ (c .before .before .before .before .before .before .before .before .before .before .before .before .before .before .before .before .before .before .before .before .before .before .before .before .before .demanded-byte .ensures) (c .before .before .before .before .before .before .before .before .before .before .before .before .before .before .before .before .before .before .before .before .before .before .before .enum-told .given .1) _ (e ∙ capacity-room _ _ _) _
-          (c .before .before .before .before .before .before .before .before .before .before .before .before .before .pack .ensures .0 ts (B .valid) (B .stands) (B .made)) _ (c .before .packed .given .1) (p .0 .offsets) small eo),
-      end-kept (a .st .previous) (a .st .used) small eo (c .before .before .before .before .before .before .before .before .before .before .before .before .before .pack .ensures .1),
+    let small : a .st .previous < 65536 =
+        c .before .before .before .before .before .before .before .before .before .before .before .before .before .before .before .before .before .before .before .before .before .before .before .before .before .before .before .struct-known .given .0 .fits in (
+      (λ blob most ts e B. finished-packs _ most B _ _ _ _
+          (c .before .before .before .before .before .before .before .before .before .before .before .before .before .before .before .before .before .before .before .before .before .before .before .before .before .before .if1 .left) _ (c .before .before .before .before .before .before .before .before .before .before .before .before .before .before .before .before .before .before .before .before .before .before .before .before .before .demanded-byte .ensures) (c .before .before .before .before .before .before .before .before .before .before .before .before .before .before .before .before .before .before .before .before .before .before .before .enum-told .given .1) _ (e ∙ capacity-room _ _ _) _
+          (c .before .before .before .before .before .before .before .before .before .before .before .before .before .pack .ensures .0 ts
+              (B .valid) (B .stands) (B .made)) _ (c .before .packed .given .1) (p .0 .offsets) small eo),
+      end-kept (a .st .previous) (a .st .used) small eo
+          (c .before .before .before .before .before .before .before .before .before .before .before .before .before .pack .ensures .1),
     )
 
 same-length-7 : tie.Need-same-length-7
@@ -85,10 +92,14 @@ same-length-12 c = search needs
 returns-4 : tie.Need-returns-4
 returns-4 c =
     let a = c .before .before .before .before .before .before .before .before .before .before .before .before .before .before .before .before .before .before .before .before .before .before .before .before .before .before .before .before .before .before .before .before .before .args in
-    let small : a .st .previous < 65536 = c .before .before .before .before .before .before .before .before .before .before .before .before .before .before .before .before .before .before .before .before .before .before .before .before .before .before .struct-known .given .0 .fits in (
-      (λ blob most ts e B. finished-full _ most B _ [] _ _ (c .before .before .before .before .before .before .before .before .before .before .before .before .before .before .before .before .before .before .before .before .before .before .before .before .before .if1 .left) _ (c .before .before .before .before .before .before .before .before .before .before .before .before .before .before .before .before .before .before .before .before .before .before .before .before .demanded-byte .ensures) (c .before .before .before .before .before .before .before .before .before .before .before .before .before .before .before .before .before .before .before .before .before .before .enum-told .given .1) _ (e ∙ capacity-room _ _ _) _
-          (c .before .before .before .before .before .before .before .before .before .before .before .before .pack .ensures .0 ts (B .valid) (B .stands) (B .made)) (c .enum-told2 .given .1)),
-      end-kept (a .st .previous) (a .st .used) small (c .before .before .before .before .before .before .before .before .before .before .before .before .before .before .before .before .before .before .before .before .set-total .ensures) (c .before .before .before .before .before .before .before .before .before .before .before .before .pack .ensures .1),
+    let small : a .st .previous < 65536 =
+        c .before .before .before .before .before .before .before .before .before .before .before .before .before .before .before .before .before .before .before .before .before .before .before .before .before .before .struct-known .given .0 .fits in (
+      (λ blob most ts e B. finished-full _ most B _ [] _ _
+          (c .before .before .before .before .before .before .before .before .before .before .before .before .before .before .before .before .before .before .before .before .before .before .before .before .before .if1 .left) _ (c .before .before .before .before .before .before .before .before .before .before .before .before .before .before .before .before .before .before .before .before .before .before .before .before .demanded-byte .ensures) (c .before .before .before .before .before .before .before .before .before .before .before .before .before .before .before .before .before .before .before .before .before .before .enum-told .given .1) _ (e ∙ capacity-room _ _ _) _
+          (c .before .before .before .before .before .before .before .before .before .before .before .before .pack .ensures .0 ts
+              (B .valid) (B .stands) (B .made)) (c .enum-told2 .given .1)),
+      end-kept (a .st .previous) (a .st .used) small
+          (c .before .before .before .before .before .before .before .before .before .before .before .before .before .before .before .before .before .before .before .before .set-total .ensures) (c .before .before .before .before .before .before .before .before .before .before .before .before .pack .ensures .1),
     )
 
 pub finish-spec : {M : Type 1} → statement M

@@ -1,5 +1,5 @@
--- `builder::missing_byte` meets its contract. The loop's invariant: the lowest byte without an id from b on is the lowest of all. The measure
--- is how many bytes are left. Assumes nothing.
+-- `builder::missing_byte` meets its contract. The loop's invariant: the lowest byte without an id from b on is the lowest of all. The
+-- measure is how many bytes are left. Assumes nothing.
 use borrow.Author.Needs.{needs}
 use mathlib.Core.Path.{_≡_, refl, sym, ap, _∙_}
 use Prim.Native.Nat.{_-_, _≤_}
@@ -37,7 +37,11 @@ cast-t8 : tie.Need-cast-t8 Inv-loop μ-loop
 cast-t8 c = omega arith
 
 returns : tie.Need-returns Inv-loop μ-loop
-returns c = missing-here _ _ (c .before .before .before .loop-test .taken) (sym (c .before .taken .ensures ∙ ap isTaken (toZ-ofZ {w = w32} {z = getD (c .before .before .before .before .before .args .single .now) (c .before .before .before .before .loop .b) (pos 0)} (sfits-of (c .before .before .taken-arg .given)))) ∙ not-true _ (c .if1 .taken)) ∙ c .before .before .before .before .loop .inv .1
+returns c = missing-here _ _ (c .before .before .before .loop-test .taken)
+    (sym (c .before .taken .ensures
+    ∙ ap isTaken (toZ-ofZ {w = w32} {z = getD (c .before .before .before .before .before .args .single .now)
+    (c .before .before .before .before .loop .b) (pos 0)} (sfits-of (c .before .before .taken-arg .given)))) ∙ not-true _ (c .if1 .taken))
+    ∙ c .before .before .before .before .loop .inv .1
 
 add-b : tie.Need-add-b Inv-loop μ-loop
 add-b c = omega arith
@@ -46,7 +50,11 @@ loop-less : tie.Need-loop-less Inv-loop μ-loop
 loop-less c = omega arith
 
 loop-again : tie.Need-loop-again Inv-loop μ-loop
-loop-again c = (omega arith, missing-next _ _ (c .before .before .before .loop-test .taken) (sym (c .before .taken .ensures ∙ ap isTaken (toZ-ofZ {w = w32} {z = getD (c .before .before .before .before .before .args .single .now) (c .before .before .before .before .loop .b) (pos 0)} (sfits-of (c .before .before .taken-arg .given)))) ∙ not-false _ (c .if1 .left)) ∙ c .before .before .before .before .loop .inv .1)
+loop-again c = (omega arith, missing-next _ _ (c .before .before .before .loop-test .taken)
+    (sym (c .before .taken .ensures
+    ∙ ap isTaken (toZ-ofZ {w = w32} {z = getD (c .before .before .before .before .before .args .single .now)
+    (c .before .before .before .before .loop .b) (pos 0)} (sfits-of (c .before .before .taken-arg .given)))) ∙ not-false _ (c .if1 .left))
+    ∙ c .before .before .before .before .loop .inv .1)
 
 returns-2 : tie.Need-returns-2 Inv-loop μ-loop
 returns-2 c = missing-end _ _ (c .loop-test .left) ∙ c .before .loop .inv .1

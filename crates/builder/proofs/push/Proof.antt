@@ -42,8 +42,10 @@ returns c =
     let small = c .before .before .before .before .before .before .before .before .before .before .before .before .before .before .before .before .before .before .fits .id .fits in
     let bytes = bytes-of (a .bytes .now) (λ k. (known k) .fits) in (
       (λ table ts B. let r = reads-of B _ (p .3) small (p .1) (p .2) bytes in
-          pushed-short B _ r table _ _ _ (c .before .before .before .before .before .before .before .before .before .enter .ensures .0 ts _ _ B r) _ (c .before .before .before .entered .given .1) (let w = c .before .wide .ensures in omega arith)),
-      record { single = refl; offsets = refl; roots = c .before .before .before .before .before .before .before .before .before .enter .ensures .1 },
+          pushed-short B _ r table _ _ _ (c .before .before .before .before .before .before .before .before .before .enter .ensures .0 ts
+              _ _ B r) _ (c .before .before .before .entered .given .1) (let w = c .before .wide .ensures in omega arith)),
+      record { single = refl; offsets = refl; roots =
+          c .before .before .before .before .before .before .before .before .before .enter .ensures .1 },
     )
 
 write-requires : tie.Need-write-requires
@@ -63,13 +65,15 @@ same-length-6 c = search needs
 
 returns-2 : tie.Need-returns-2
 returns-2 c =
-    let p = c .before .before .before .before .before .before .before .before .before .before .before .before .before .before .before .pre in
+    let p = c .before .before .before .before .before .before .before .before .before .before .before .before .before .before .before .pre
+        in
     let a = c .before .before .before .before .before .before .before .before .before .before .before .before .before .before .before .args in
     let known = c .before .before .before .before .before .before .before .before .before .before .shared-slice-known .given in
     let small = c .before .before .before .before .before .before .before .before .before .before .before .before .before .before .before .fits .id .fits in
     let bytes = bytes-of (a .bytes .now) (λ k. (known k) .fits) in (
       (λ table ts B. let r = reads-of B _ (p .3) small (p .1) (p .2) bytes in
-          pushed-twice B _ r table _ _ _ (c .before .before .before .before .before .before .enter .ensures .0 ts _ _ B r) (c .enum-told .given .1)),
+          pushed-twice B _ r table _ _ _ (c .before .before .before .before .before .before .enter .ensures .0 ts _ _ B r)
+              (c .enum-told .given .1)),
       record { single = refl; offsets = refl; roots = c .before .before .before .before .before .before .enter .ensures .1 },
     )
 
@@ -84,13 +88,15 @@ same-length-9 c = search needs
 
 returns-3 : tie.Need-returns-3
 returns-3 c =
-    let p = c .before .before .before .before .before .before .before .before .before .before .before .before .before .before .before .pre in
+    let p = c .before .before .before .before .before .before .before .before .before .before .before .before .before .before .before .pre
+        in
     let a = c .before .before .before .before .before .before .before .before .before .before .before .before .before .before .before .args in
     let known = c .before .before .before .before .before .before .before .before .before .before .shared-slice-known .given in
     let small = c .before .before .before .before .before .before .before .before .before .before .before .before .before .before .before .fits .id .fits in
     let bytes = bytes-of (a .bytes .now) (λ k. (known k) .fits) in (
       (λ table ts B. let r = reads-of B _ (p .3) small (p .1) (p .2) bytes in
-          pushed-full B _ r table _ _ _ (c .before .before .before .before .before .before .enter .ensures .0 ts _ _ B r) (c .enum-told2 .given .1)),
+          pushed-full B _ r table _ _ _ (c .before .before .before .before .before .before .enter .ensures .0 ts _ _ B r)
+              (c .enum-told2 .given .1)),
       record { single = refl; offsets = refl; roots = c .before .before .before .before .before .before .enter .ensures .1 },
     )
 
@@ -118,8 +124,13 @@ returns-4 c =
     let bytes = bytes-of (a .bytes .now) (λ k. (known k) .fits) in (
       (λ table ts B. let r = reads-of B _ (p .3) small (p .1) (p .2) bytes in
           pushed-taken B _ r table _ _ _ (c .before .before .before .before .before .before .before .before .before .before .before .before .before .before .before .before .before .before .before .enter .ensures .0 ts _ _ B r) _ (c .before .before .before .before .before .before .before .before .before .before .before .before .before .entered .given .1) (p .0 .single) (p .0 .offsets) (let w = c .before .before .before .before .before .before .before .before .before .before .before .wide .ensures in omega arith) (c .before .before .before .before .before .before .before .before .before .before .before .before .before .before .before .before .before .before .before .enter .kept .1 .1 .0)
-          _ (c .before .before .before .before .before .before .write .ensures .0) _ (c .before .before .before .before .before .before .write .ensures .1 .0) _ (c .before .before .before .before .before .before .write .ensures .1 .1) _ (c .counted .ensures)),
-      all-kept (a .bytes .now) (a .st .previous) (a .id) (a .st .used) ((known 0) .fits) (p .3) small (c .before .before .before .before .before .before .write .ensures .0) (c .before .before .before .before .before .before .write .ensures .1 .0) (c .before .before .before .before .before .before .before .before .before .before .before .before .before .before .before .before .before .before .before .enter .ensures .1),
+          _ (c .before .before .before .before .before .before .write .ensures .0) _
+              (c .before .before .before .before .before .before .write .ensures .1 .0) _
+              (c .before .before .before .before .before .before .write .ensures .1 .1) _ (c .counted .ensures)),
+      all-kept (a .bytes .now) (a .st .previous) (a .id) (a .st .used) ((known 0) .fits) (p .3) small
+          (c .before .before .before .before .before .before .write .ensures .0)
+          (c .before .before .before .before .before .before .write .ensures .1 .0)
+          (c .before .before .before .before .before .before .before .before .before .before .before .before .before .before .before .before .before .before .before .enter .ensures .1),
     )
 
 pub push-spec : {M : Type 1} → statement M

@@ -23,7 +23,8 @@ same-length : tie.Need-same-length
 same-length c = search needs
 
 returns : tie.Need-returns
-returns c = offsets-run _ _ _ _ _ _ _ (c .before .before .fill-u32 .ensures) (c .before .before .before .before .index .ensures) (c .before .before .before .index2 .ensures)
+returns c = offsets-run _ _ _ _ _ _ _ (c .before .before .fill-u32 .ensures) (c .before .before .before .before .index .ensures)
+    (c .before .before .before .index2 .ensures)
 
 pub set-offsets-spec : {M : Type 1} → statement M
 set-offsets-spec =

@@ -29,7 +29,8 @@ same-length : tie.Need-same-length
 same-length c = search needs
 
 returns : tie.Need-returns
-returns c = single-one _ _ _ _ _ (c .before .before .before .if1 .taken) (c .before .place .ensures) (ap (λ (z : ℤ). toZ w32 (ofZ w32 z)) (c .signed .ensures) ∙ toZ-pos w32 (omega arith))
+returns c = single-one _ _ _ _ _ (c .before .before .before .if1 .taken) (c .before .place .ensures)
+    (ap (λ (z : ℤ). toZ w32 (ofZ w32 z)) (c .signed .ensures) ∙ toZ-pos w32 (omega arith))
 
 returns-2 : tie.Need-returns-2
 returns-2 c = single-other _ _ _ (c .if1 .left)

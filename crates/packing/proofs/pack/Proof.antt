@@ -2,7 +2,8 @@
 use mathlib.Core.Path.{refl}
 use native.Mathlib.Omega.{arith}
 use Rattle.packing.proofs.Walked.{ended-full, ended-open}
-use Rattle.packing.proofs.Answered.{end-zero, end-bounds, end-past, end-room, past-answer, words-pos, fits-answer, capacity-le, roots-behind}
+use Rattle.packing.proofs.Answered.{end-zero, end-bounds, end-past, end-room, past-answer, words-pos, fits-answer, capacity-le,
+    roots-behind}
 use Rattle.trie.specs.Run.{see}
 use Rattle.packing.specs.Nodes.{rootWord}
 use borrow.Author.Needs.{needs}

@@ -37,21 +37,39 @@ long : (c : tie.Else1) → tooShort (lent (c .before .before .before .before .be
 long c = sym (c .before .too-short .ensures _ _) ∙ c .if1 .left
 
 -- no refusal of a call
-goes : (c : tie.After-enum-told) → none ≡ callRefusal (held-by (c .before .before .before .before .before .before .before .before .before .before .before)) (called (c .before .before .before .before .before .before .before .before .before .before .before))
-goes c = ap refusalOf (sym (c .enum-told .given .1)) ∙ c .before .before .refused-by .ensures (now (c .before .before .before .before .before .before .before .before .before .before .before .args .piece)) (now (c .before .before .before .before .before .before .before .before .before .before .before .args .out)) refl refl
+goes : (c : tie.After-enum-told) → none
+    ≡ callRefusal (held-by (c .before .before .before .before .before .before .before .before .before .before .before))
+    (called (c .before .before .before .before .before .before .before .before .before .before .before))
+goes c = ap refusalOf (sym (c .enum-told .given .1))
+    ∙ c .before .before .refused-by .ensures
+    (now (c .before .before .before .before .before .before .before .before .before .before .before .args .piece))
+    (now (c .before .before .before .before .before .before .before .before .before .before .before .args .out)) refl refl
 
-through : (c : tie.After-enum-told) → Passes (held-by (c .before .before .before .before .before .before .before .before .before .before .before)) (length (now (c .before .before .before .before .before .before .before .before .before .before .before .args .piece))) (length (now (c .before .before .before .before .before .before .before .before .before .before .before .args .out)))
-through c = passes (held-by (c .before .before .before .before .before .before .before .before .before .before .before)) (now (c .before .before .before .before .before .before .before .before .before .before .before .args .piece)) (now (c .before .before .before .before .before .before .before .before .before .before .before .args .out)) (goes c)
+through : (c : tie.After-enum-told)
+    → Passes (held-by (c .before .before .before .before .before .before .before .before .before .before .before))
+    (length (now (c .before .before .before .before .before .before .before .before .before .before .before .args .piece)))
+    (length (now (c .before .before .before .before .before .before .before .before .before .before .before .args .out)))
+through c = passes (held-by (c .before .before .before .before .before .before .before .before .before .before .before))
+    (now (c .before .before .before .before .before .before .before .before .before .before .before .args .piece))
+    (now (c .before .before .before .before .before .before .before .before .before .before .before .args .out)) (goes c)
 
 -- as many bytes are held as the record says
-many : (c : tie.After-enum-told) → length (take (c .before .before .before .before .before .before .before .before .before .before .before .args .stream .«held_len») (c .before .before .before .before .before .before .before .before .before .before .before .args .stream .held)) ≡ c .before .before .before .before .before .before .before .before .before .before .before .args .stream .«held_len»
-many c = length-take-le _ _ (omega (arith, cells (c .before .before .before .before .before .before .before .before .before .before .before), through c .few))
+many : (c : tie.After-enum-told)
+    → length (take (c .before .before .before .before .before .before .before .before .before .before .before .args .stream .«held_len»)
+    (c .before .before .before .before .before .before .before .before .before .before .before .args .stream .held))
+    ≡ c .before .before .before .before .before .before .before .before .before .before .before .args .stream .«held_len»
+many c = length-take-le _ _ (omega
+    (arith, cells (c .before .before .before .before .before .before .before .before .before .before .before), through c .few))
 
 too-short-requires : tie.Need-too-short-requires
 too-short-requires c κs = search needs
 
 returns : tie.Need-returns
-returns c = gives-short (lent (c .before .before .before .before .before .before .before .before)) (held-by (c .before .before .before .before .before .before .before .before)) (called (c .before .before .before .before .before .before .before .before)) _ (now (c .before .before .before .before .before .before .before .before .args .out)) (sym (c .before .too-short .ensures _ _) ∙ c .if1 .taken) refl refl
+returns c = gives-short (lent (c .before .before .before .before .before .before .before .before))
+    (held-by (c .before .before .before .before .before .before .before .before))
+    (called (c .before .before .before .before .before .before .before .before)) _
+    (now (c .before .before .before .before .before .before .before .before .args .out)) (sym (c .before .too-short .ensures _ _)
+    ∙ c .if1 .taken) refl refl
 
 refused-by-requires : tie.Need-refused-by-requires
 refused-by-requires c κs = search needs
@@ -61,8 +79,15 @@ enum-known-refusal c = search needs
 
 returns-2 : tie.Need-returns-2
 returns-2 c =
-    gives-refused (lent (c .before .before .before .before .before .before .before .before .before .before .before .before)) (held-by (c .before .before .before .before .before .before .before .before .before .before .before .before)) (called (c .before .before .before .before .before .before .before .before .before .before .before .before)) _ (now (c .before .before .before .before .before .before .before .before .before .before .before .before .args .out)) (long (c .before .before .before .before)) _
-    (ap refusalOf (sym (c .before .refusal .given .1)) ∙ c .before .before .before .refused-by .ensures (now (c .before .before .before .before .before .before .before .before .before .before .before .before .args .piece)) (now (c .before .before .before .before .before .before .before .before .before .before .before .before .args .out)) refl refl) refl refl
+    gives-refused (lent (c .before .before .before .before .before .before .before .before .before .before .before .before))
+        (held-by (c .before .before .before .before .before .before .before .before .before .before .before .before))
+        (called (c .before .before .before .before .before .before .before .before .before .before .before .before)) _
+        (now (c .before .before .before .before .before .before .before .before .before .before .before .before .args .out))
+        (long (c .before .before .before .before)) _
+    (ap refusalOf (sym (c .before .refusal .given .1)) ∙ c .before .before .before .refused-by .ensures
+        (now (c .before .before .before .before .before .before .before .before .before .before .before .before .args .piece))
+        (now (c .before .before .before .before .before .before .before .before .before .before .before .before .args .out)) refl refl)
+        refl refl
 
 enum-told : tie.Need-enum-told
 enum-told c = search needs
@@ -71,7 +96,9 @@ cast-n : tie.Need-cast-n
 cast-n c = search needs
 
 array-share-prefix-held : tie.Need-array-share-prefix-held
-array-share-prefix-held c = omega (arith, cells (c .before .before .before .before .before .before .before .before .before .before .before .before .before), through (c .before .before) .few)
+array-share-prefix-held c = omega
+    (arith, cells (c .before .before .before .before .before .before .before .before .before .before .before .before .before), through
+    (c .before .before) .few)
 
 slice-aggregate-take-piece : tie.Need-slice-aggregate-take-piece
 slice-aggregate-take-piece c = sym (many (c .before .before .before))

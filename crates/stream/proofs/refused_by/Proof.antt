@@ -33,7 +33,8 @@ add-if6 : tie.Need-add-if6
 add-if6 c = search needs
 
 returns-6 : tie.Need-returns-6
-returns-6 c piece out p o = is-output-short _ piece out (omega arith) (omega arith) (omega arith) (λ e. omega arith) (omega arith) (omega arith)
+returns-6 c piece out p o = is-output-short _ piece out (omega arith) (omega arith) (omega arith) (λ e. omega arith) (omega arith)
+    (omega arith)
 
 returns-7 : tie.Need-returns-7
 returns-7 c piece out p o = is-none _ piece out (omega arith) (omega arith) (omega arith) (λ e. omega arith) (omega arith) (omega arith)

@@ -32,13 +32,16 @@ module _ (c : tie.After-found Inv-loop μ-loop) where
   start = c .before .before .before .before .before .before .before .before .before .before .before
 
   -- the match that was found, as the definition has it
-  matched : (offsets blob : List ℕ) → matchOn (lent start offsets blob) (drop (c .before .before .before .before .before .before .loop .i) (now (start .args .src))) ≡ found (c .found .given .0 .0) (c .found .given .0 .1 .0)
+  matched : (offsets blob : List ℕ) → matchOn (lent start offsets blob) (drop (c .before .before .before .before .before .before .loop .i)
+      (now (start .args .src))) ≡ found (c .found .given .0 .0) (c .found .given .0 .1 .0)
   matched offsets blob = sym (c .before .before .match-at .ensures offsets blob) ∙ ap matchOf (c .found .given .1)
 
   -- it lies within the bytes left
-  within : (1 ≤ c .found .given .0 .1 .0) × (c .found .given .0 .1 .0 ≤ length (now (start .args .src)) - c .before .before .before .before .before .before .loop .i)
+  within : (1 ≤ c .found .given .0 .1 .0)
+      × (c .found .given .0 .1 .0 ≤ length (now (start .args .src)) - c .before .before .before .before .before .before .loop .i)
   within =
-      let w = match-within (lent start [] []) (drop (c .before .before .before .before .before .before .loop .i) (now (start .args .src))) _ _ (matched [] []) in
+      let w = match-within (lent start [] []) (drop (c .before .before .before .before .before .before .loop .i) (now (start .args .src)))
+          _ _ (matched [] []) in
       let l = length-drop (c .before .before .before .before .before .before .loop .i) (now (start .args .src)) in
       (w .0, omega (arith, w .1))
 
@@ -53,8 +56,10 @@ same-length c = c .before .before .before .loop .inv .0
 
 returns : tie.Need-returns Inv-loop μ-loop
 returns c offsets blob =
-    ends-waiting _ _ _ _ _ _ _ _ _ (c .before .before .before .loop .inv .3 offsets blob) (c .before .before .loop-test .taken) (omega arith)
-    (sym (c .before .undecided-at .ensures (now (c .before .before .before .before .before .before .before .before .args .single)) offsets blob) ∙ c .if1 .taken)
+    ends-waiting _ _ _ _ _ _ _ _ _ (c .before .before .before .loop .inv .3 offsets blob) (c .before .before .loop-test .taken)
+        (omega arith)
+    (sym (c .before .undecided-at .ensures (now (c .before .before .before .before .before .before .before .before .args .single)) offsets
+        blob) ∙ c .if1 .taken)
 
 match-at-requires : tie.Need-match-at-requires Inv-loop μ-loop
 match-at-requires c κs = (omega arith, omega arith, omega arith)
@@ -70,8 +75,11 @@ same-length-2 c = c .before .before .before .before .before .before .loop .inv .
 
 returns-2 : tie.Need-returns-2 Inv-loop μ-loop
 returns-2 c offsets blob =
-    ends-stuck _ _ _ _ _ _ _ _ _ (c .before .before .before .before .before .before .loop .inv .3 offsets blob) (c .before .before .before .before .before .loop-test .taken) (omega arith)
-    (sym (c .before .before .before .before .undecided-at .ensures (now (c .before .before .before .before .before .before .before .before .before .before .before .args .single)) offsets blob) ∙ c .before .before .before .if1 .left)
+    ends-stuck _ _ _ _ _ _ _ _ _ (c .before .before .before .before .before .before .loop .inv .3 offsets blob)
+        (c .before .before .before .before .before .loop-test .taken) (omega arith)
+    (sym (c .before .before .before .before .undecided-at .ensures
+        (now (c .before .before .before .before .before .before .before .before .before .before .before .args .single)) offsets blob)
+        ∙ c .before .before .before .if1 .left)
     (sym (c .before .before .match-at .ensures offsets blob) ∙ ap matchOf (c .enum-told .given .1))
 
 mul-out : tie.Need-mul-out Inv-loop μ-loop
@@ -92,12 +100,16 @@ loop-less c = omega (arith, within (c .before))
 loop-again : tie.Need-loop-again Inv-loop μ-loop
 loop-again c =
     let w = within (c .before) in
-    let l = length-drop (c .before .before .before .before .before .before .before .loop .i) (now (c .before .before .before .before .before .before .before .before .before .before .before .before .args .src)) in (
+    let l = length-drop (c .before .before .before .before .before .before .before .loop .i)
+        (now (c .before .before .before .before .before .before .before .before .before .before .before .before .args .src)) in (
       simp length-set (c .before .before .before .before .before .before .before .loop .inv .0),
       omega arith,
       omega arith,
-      λ offsets blob. stands-next _ _ _ _ _ _ _ _ _ (c .before .before .before .before .before .before .before .loop .inv .3 offsets blob) (c .before .before .before .before .before .before .loop-test .taken) (omega arith) _ _
-          (sym (c .before .before .before .before .before .undecided-at .ensures (now (c .before .before .before .before .before .before .before .before .before .before .before .before .args .single)) offsets blob) ∙ c .before .before .before .before .if1 .left) (matched (c .before) offsets blob) (w .0) (omega arith),
+      λ offsets blob. stands-next _ _ _ _ _ _ _ _ _ (c .before .before .before .before .before .before .before .loop .inv .3 offsets blob)
+          (c .before .before .before .before .before .before .loop-test .taken) (omega arith) _ _
+          (sym (c .before .before .before .before .before .undecided-at .ensures
+              (now (c .before .before .before .before .before .before .before .before .before .before .before .before .args .single))
+              offsets blob) ∙ c .before .before .before .before .if1 .left) (matched (c .before) offsets blob) (w .0) (omega arith),
     )
 
 same-length-3 : tie.Need-same-length-3 Inv-loop μ-loop

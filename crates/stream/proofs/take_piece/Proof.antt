@@ -28,7 +28,9 @@ lent s offsets blob = memory (now (s .args .single)) offsets blob (now (s .args 
 many : (c : tie.After-join) → c .join .result ≡ length (take (c .join .result) (c .join .last .1 .1 .0))
 many c = sym (length-take-le _ _ (omega (arith, c .join .ensures .0, c .join .kept .1 .1 .0)))
 
-joined : (c : tie.After-join) → (length (now (c .before .before .before .before .before .before .before .args .held)) ≤ c .join .result) × (c .join .result ≤ length (now (c .before .before .before .before .before .before .before .args .held)) + length (now (c .before .before .before .before .before .before .before .args .piece)))
+joined : (c : tie.After-join) → (length (now (c .before .before .before .before .before .before .before .args .held)) ≤ c .join .result)
+    × (c .join .result ≤ length (now (c .before .before .before .before .before .before .before .args .held)) + length
+    (now (c .before .before .before .before .before .before .before .args .piece)))
 joined c =
     let a = c .before .before .before .before .before .before .before .args in
     let n = many c in
@@ -43,26 +45,50 @@ bytes s = window (now (s .args .held)) (now (s .args .piece))
 
 -- what the run gives
 abbrev Gives : tie.After-run → List ℕ → List ℕ → List ℕ → Ran → Type 0
-Gives c offsets blob src r = RunsTo (lent (c .before .before .before .before .before .before .before .before .before .before .before) offsets blob) src 0 (length (now (c .before .before .before .before .before .before .before .before .before .before .before .args .held))) 0 (now (c .before .before .before .before .before .before .before .before .before .before .before .args .out)) (c .run .last .1 .1 .1 .1 .1 .1 .0) r
+Gives c offsets blob src r = RunsTo (lent (c .before .before .before .before .before .before .before .before .before .before .before)
+    offsets blob) src 0 (length (now
+    (c .before .before .before .before .before .before .before .before .before .before .before .args .held))) 0
+    (now (c .before .before .before .before .before .before .before .before .before .before .before .args .out))
+    (c .run .last .1 .1 .1 .1 .1 .1 .0) r
 
-runs : (c : tie.After-run) (offsets blob : List ℕ) → Gives c offsets blob (bytes (c .before .before .before .before .before .before .before .before .before .before .before)) (c .run .result)
-runs c offsets blob = subst (λ (s : List ℕ). Gives c offsets blob s (c .run .result)) (c .before .before .before .before .join .ensures .1) (c .run .ensures offsets blob)
+runs : (c : tie.After-run) (offsets blob : List ℕ)
+    → Gives c offsets blob (bytes (c .before .before .before .before .before .before .before .before .before .before .before))
+    (c .run .result)
+runs c offsets blob = subst (λ (s : List ℕ). Gives c offsets blob s (c .run .result))
+    (c .before .before .before .before .join .ensures .1) (c .run .ensures offsets blob)
 
 -- in each case
-through : (c : tie.After-ran) (offsets blob : List ℕ) → Gives (c .before .before .before .before) offsets blob (bytes (c .before .before .before .before .before .before .before .before .before .before .before .before .before .before .before)) (Through (c .ran .given .0 .0) (c .ran .given .0 .1 .0))
-through c offsets blob = subst (Gives (c .before .before .before .before) offsets blob (bytes (c .before .before .before .before .before .before .before .before .before .before .before .before .before .before .before))) (c .ran .given .1) (runs (c .before .before .before .before) offsets blob)
+through : (c : tie.After-ran) (offsets blob : List ℕ) → Gives (c .before .before .before .before) offsets blob
+    (bytes (c .before .before .before .before .before .before .before .before .before .before .before .before .before .before .before))
+    (Through (c .ran .given .0 .0) (c .ran .given .0 .1 .0))
+through c offsets blob = subst (Gives (c .before .before .before .before) offsets blob
+    (bytes (c .before .before .before .before .before .before .before .before .before .before .before .before .before .before .before)))
+    (c .ran .given .1) (runs (c .before .before .before .before) offsets blob)
 
-waiting : (c : tie.After-ran2) (offsets blob : List ℕ) → Gives (c .before .before .before .before) offsets blob (bytes (c .before .before .before .before .before .before .before .before .before .before .before .before .before .before .before)) (Waiting (c .ran2 .given .0 .0) (c .ran2 .given .0 .1 .0))
-waiting c offsets blob = subst (Gives (c .before .before .before .before) offsets blob (bytes (c .before .before .before .before .before .before .before .before .before .before .before .before .before .before .before))) (c .ran2 .given .1) (runs (c .before .before .before .before) offsets blob)
+waiting : (c : tie.After-ran2) (offsets blob : List ℕ) → Gives (c .before .before .before .before) offsets blob
+    (bytes (c .before .before .before .before .before .before .before .before .before .before .before .before .before .before .before))
+    (Waiting (c .ran2 .given .0 .0) (c .ran2 .given .0 .1 .0))
+waiting c offsets blob = subst (Gives (c .before .before .before .before) offsets blob
+    (bytes (c .before .before .before .before .before .before .before .before .before .before .before .before .before .before .before)))
+    (c .ran2 .given .1) (runs (c .before .before .before .before) offsets blob)
 
-stuck : (c : tie.After-ran3) (offsets blob : List ℕ) → Gives (c .before .before .before .before) offsets blob (bytes (c .before .before .before .before .before .before .before .before .before .before .before .before .before .before .before)) (Stuck (c .ran3 .given .0 .0) (c .ran3 .given .0 .1 .0))
-stuck c offsets blob = subst (Gives (c .before .before .before .before) offsets blob (bytes (c .before .before .before .before .before .before .before .before .before .before .before .before .before .before .before))) (c .ran3 .given .1) (runs (c .before .before .before .before) offsets blob)
+stuck : (c : tie.After-ran3) (offsets blob : List ℕ) → Gives (c .before .before .before .before) offsets blob
+    (bytes (c .before .before .before .before .before .before .before .before .before .before .before .before .before .before .before))
+    (Stuck (c .ran3 .given .0 .0) (c .ran3 .given .0 .1 .0))
+stuck c offsets blob = subst (Gives (c .before .before .before .before) offsets blob
+    (bytes (c .before .before .before .before .before .before .before .before .before .before .before .before .before .before .before)))
+    (c .ran3 .given .1) (runs (c .before .before .before .before) offsets blob)
 
 -- the bytes that wait, as a part of the window
 rest : (c : tie.After-ran2)
-    → take (c .before .before .before .before .before .before .before .before .join .result - c .ran2 .given .0 .0) (drop (c .ran2 .given .0 .0) (c .before .before .before .before .before .before .before .before .join .last .1 .1 .0)) ≡ drop (c .ran2 .given .0 .0) (bytes (c .before .before .before .before .before .before .before .before .before .before .before .before .before .before .before))
+    → take (c .before .before .before .before .before .before .before .before .join .result - c .ran2 .given .0 .0)
+        (drop (c .ran2 .given .0 .0) (c .before .before .before .before .before .before .before .before .join .last .1 .1 .0))
+        ≡ drop (c .ran2 .given .0 .0) (bytes
+        (c .before .before .before .before .before .before .before .before .before .before .before .before .before .before .before))
 rest c =
-    part-within (c .before .before .before .before .before .before .before .before .join .last .1 .1 .0) (c .ran2 .given .0 .0) (c .before .before .before .before .before .before .before .before .join .result) (omega (arith, waiting c [] [] .comes .0, joined (c .before .before .before .before .before .before .before .before) .0))
+    part-within (c .before .before .before .before .before .before .before .before .join .last .1 .1 .0) (c .ran2 .given .0 .0)
+        (c .before .before .before .before .before .before .before .before .join .result)
+        (omega (arith, waiting c [] [] .comes .0, joined (c .before .before .before .before .before .before .before .before) .0))
     ∙ ap (drop (c .ran2 .given .0 .0)) (c .before .before .before .before .before .before .before .before .join .ensures .1)
 
 cast-all : tie.Need-cast-all
@@ -115,10 +141,12 @@ enum-known-ran-2 : tie.Need-enum-known-ran-2
 enum-known-ran-2 c = search needs
 
 sub-opened : tie.Need-sub-opened
-sub-opened c = omega (arith, waiting (c .before) [] [] .comes .0, joined (c .before .before .before .before .before .before .before .before .before) .0)
+sub-opened c = omega (arith, waiting (c .before) [] [] .comes .0, joined
+    (c .before .before .before .before .before .before .before .before .before) .0)
 
 part-opened-start : tie.Need-part-opened-start
-part-opened-start c = omega (arith, waiting (c .before .before) [] [] .comes .0, joined (c .before .before .before .before .before .before .before .before .before .before) .0)
+part-opened-start c = omega (arith, waiting (c .before .before) [] [] .comes .0, joined
+    (c .before .before .before .before .before .before .before .before .before .before) .0)
 
 part-opened-end : tie.Need-part-opened-end
 part-opened-end c = search needs
@@ -126,19 +154,23 @@ part-opened-end c = search needs
 opened-requires : tie.Need-opened-requires
 opened-requires c κs =
     let w = waiting (c .before .before .before) [] [] .comes in
-    subst (λ (s : List ℕ). length s ≤ 254) (sym (rest (c .before .before .before))) (waits-few (lent (c .before .before .before .before .before .before .before .before .before .before .before .before .before .before .before .before .before .before) [] []) _ (w .1))
+    subst (λ (s : List ℕ). length s ≤ 254) (sym (rest (c .before .before .before)))
+        (waits-few (lent (c .before .before .before .before .before .before .before .before .before .before .before .before .before .before .before .before .before .before) [] []) _ (w .1))
 
 enum-known-ran-3 : tie.Need-enum-known-ran-3
 enum-known-ran-3 c = search needs
 
 cast-stopped : tie.Need-cast-stopped
-cast-stopped c = omega (arith, stuck (c .before) [] [] .comes .0, c .before .before .before .before .before .before .before .before .before .before .before .before .before .before .before .before .pre)
+cast-stopped c = omega (arith, stuck (c .before) [] [] .comes .0,
+    c .before .before .before .before .before .before .before .before .before .before .before .before .before .before .before .before .pre)
 
 add-stopped : tie.Need-add-stopped
-add-stopped c = omega (arith, stuck (c .before) [] [] .comes .0, c .before .before .before .before .before .before .before .before .before .before .before .before .before .before .before .before .pre)
+add-stopped c = omega (arith, stuck (c .before) [] [] .comes .0,
+    c .before .before .before .before .before .before .before .before .before .before .before .before .before .before .before .before .pre)
 
 array-read-stopped : tie.Need-array-read-stopped
-array-read-stopped c = omega (arith, stuck (c .before) [] [] .comes .0, c .before .before .before .before .before .before .before .before .before .before .before .before .before .before .before .before .pre)
+array-read-stopped c = omega (arith, stuck (c .before) [] [] .comes .0,
+    c .before .before .before .before .before .before .before .before .before .before .before .before .before .before .before .before .pre)
 
 stopped-requires : tie.Need-stopped-requires
 stopped-requires c κs = search needs
@@ -150,7 +182,8 @@ returns : tie.Need-returns
 returns c offsets blob =
     let a = c .before .before .before .before .before .before .before .before .before .before .before .before .before .before .before .before .before .before .before .before .args in
     held-through (lent (c .before .before .before .before .before .before .before .before .before .before .before .before .before .before .before .before .before .before .before .before) offsets blob) (now (a .held)) (now (a .piece)) (a .total - length (now (a .held))) (a .total) (a .total + length (now (a .piece))) _ _ (now (a .out)) _ _ _
-    (through (c .before .before .before .before .before) offsets blob) (omega (arith, c .before .before .before .before .before .before .before .before .before .before .before .before .before .before .before .before .before .before .before .before .pre)) (λ before b. c .before .before .take-rest .ensures offsets blob before b)
+    (through (c .before .before .before .before .before) offsets blob)
+        (omega (arith, c .before .before .before .before .before .before .before .before .before .before .before .before .before .before .before .before .before .before .before .before .pre)) (λ before b. c .before .before .take-rest .ensures offsets blob before b)
 
 same-length-2 : tie.Need-same-length-2
 same-length-2 c = search needs
@@ -160,7 +193,8 @@ returns-2 c offsets blob =
     let a = c .before .before .before .before .before .before .before .before .before .before .before .before .before .before .before .before .before .before .before .args in
     held-waiting (lent (c .before .before .before .before .before .before .before .before .before .before .before .before .before .before .before .before .before .before .before) offsets blob) (now (a .held)) (now (a .piece)) (a .total - length (now (a .held))) (a .total) (a .total + length (now (a .piece))) _ _ (now (a .out)) _ _
     (waiting (c .before .before .before .before) offsets blob)
-    (c .opened .ensures .0, c .opened .ensures .1 ∙ ap (holding 0 (a .total + length (now (a .piece)))) (rest (c .before .before .before .before)))
+    (c .opened .ensures .0, c .opened .ensures .1 ∙ ap (holding 0 (a .total + length (now (a .piece))))
+        (rest (c .before .before .before .before)))
 
 same-length-3 : tie.Need-same-length-3
 same-length-3 c = search needs
@@ -171,10 +205,16 @@ returns-3 c offsets blob =
     let at = c .before .before .ran3 .given .0 .0 in
     let p = a .total - length (now (a .held)) + at in
     let w = stuck (c .before .before) offsets blob in
-    let b : getD (c .before .before .before .before .before .before .before .before .before .before .join .last .1 .1 .0) at 0 ≡ getD (bytes (c .before .before .before .before .before .before .before .before .before .before .before .before .before .before .before .before .before)) at 0 =
-    sym (getD-take (c .before .before .before .before .before .before .before .before .before .before .join .result) (c .before .before .before .before .before .before .before .before .before .before .join .last .1 .1 .0) at 0 (omega (arith, w .comes .0, joined (c .before .before .before .before .before .before .before .before .before .before) .0))) ∙ ap (λ (s : List ℕ). getD s at 0) (c .before .before .before .before .before .before .before .before .before .before .join .ensures .1) in
+    let b : getD (c .before .before .before .before .before .before .before .before .before .before .join .last .1 .1 .0) at 0
+        ≡ getD (bytes (c .before .before .before .before .before .before .before .before .before .before .before .before .before .before .before .before .before)) at 0 =
+    sym (getD-take (c .before .before .before .before .before .before .before .before .before .before .join .result)
+        (c .before .before .before .before .before .before .before .before .before .before .join .last .1 .1 .0) at 0
+        (omega (arith, w .comes .0, joined (c .before .before .before .before .before .before .before .before .before .before) .0)))
+        ∙ ap (λ (s : List ℕ). getD s at 0)
+        (c .before .before .before .before .before .before .before .before .before .before .join .ensures .1) in
     held-stuck (lent (c .before .before .before .before .before .before .before .before .before .before .before .before .before .before .before .before .before) offsets blob) (now (a .held)) (now (a .piece)) (a .total - length (now (a .held))) (a .total) (a .total + length (now (a .piece))) _ _ (now (a .out)) _ _
-    w (c .stopped .ensures .0 ∙ ap (Stopped (c .before .before .ran3 .given .0 .1 .0) p) b, c .stopped .ensures .1 ∙ ap (stoppedAt (a .total + length (now (a .piece))) p) b)
+    w (c .stopped .ensures .0 ∙ ap (Stopped (c .before .before .ran3 .given .0 .1 .0) p) b, c .stopped .ensures .1
+        ∙ ap (stoppedAt (a .total + length (now (a .piece))) p) b)
 
 pub take-piece-spec : {M : Type 1} → statement M
 take-piece-spec =

@@ -23,17 +23,28 @@ lent s offsets blob = memory (now (s .args .single)) offsets blob (now (s .args 
 -- what the run gives
 abbrev Gives : tie.After-run → List ℕ → List ℕ → Ran → Type 0
 Gives c offsets blob r =
-    RunsTo (lent (c .before .before .before .before .before .before) offsets blob) (now (c .before .before .before .before .before .before .args .piece)) (c .before .before .before .before .before .before .args .from) (length (now (c .before .before .before .before .before .before .args .piece))) (c .before .before .before .before .before .before .args .count) (now (c .before .before .before .before .before .before .args .out)) (c .run .last .1 .1 .1 .1 .1 .1 .0) r
+    RunsTo (lent (c .before .before .before .before .before .before) offsets blob)
+        (now (c .before .before .before .before .before .before .args .piece))
+        (c .before .before .before .before .before .before .args .from)
+        (length (now (c .before .before .before .before .before .before .args .piece)))
+        (c .before .before .before .before .before .before .args .count)
+        (now (c .before .before .before .before .before .before .args .out)) (c .run .last .1 .1 .1 .1 .1 .1 .0) r
 
 -- in each case
-through : (c : tie.After-ran) (offsets blob : List ℕ) → Gives (c .before .before .before .before) offsets blob (Through (c .ran .given .0 .0) (c .ran .given .0 .1 .0))
-through c offsets blob = subst (Gives (c .before .before .before .before) offsets blob) (c .ran .given .1) (c .before .before .before .before .run .ensures offsets blob)
+through : (c : tie.After-ran) (offsets blob : List ℕ) → Gives (c .before .before .before .before) offsets blob
+    (Through (c .ran .given .0 .0) (c .ran .given .0 .1 .0))
+through c offsets blob = subst (Gives (c .before .before .before .before) offsets blob) (c .ran .given .1)
+    (c .before .before .before .before .run .ensures offsets blob)
 
-waiting : (c : tie.After-ran2) (offsets blob : List ℕ) → Gives (c .before .before .before .before) offsets blob (Waiting (c .ran2 .given .0 .0) (c .ran2 .given .0 .1 .0))
-waiting c offsets blob = subst (Gives (c .before .before .before .before) offsets blob) (c .ran2 .given .1) (c .before .before .before .before .run .ensures offsets blob)
+waiting : (c : tie.After-ran2) (offsets blob : List ℕ) → Gives (c .before .before .before .before) offsets blob
+    (Waiting (c .ran2 .given .0 .0) (c .ran2 .given .0 .1 .0))
+waiting c offsets blob = subst (Gives (c .before .before .before .before) offsets blob) (c .ran2 .given .1)
+    (c .before .before .before .before .run .ensures offsets blob)
 
-stuck : (c : tie.After-ran3) (offsets blob : List ℕ) → Gives (c .before .before .before .before) offsets blob (Stuck (c .ran3 .given .0 .0) (c .ran3 .given .0 .1 .0))
-stuck c offsets blob = subst (Gives (c .before .before .before .before) offsets blob) (c .ran3 .given .1) (c .before .before .before .before .run .ensures offsets blob)
+stuck : (c : tie.After-ran3) (offsets blob : List ℕ) → Gives (c .before .before .before .before) offsets blob
+    (Stuck (c .ran3 .given .0 .0) (c .ran3 .given .0 .1 .0))
+stuck c offsets blob = subst (Gives (c .before .before .before .before) offsets blob) (c .ran3 .given .1)
+    (c .before .before .before .before .run .ensures offsets blob)
 
 cast-all : tie.Need-cast-all
 cast-all c = search needs
@@ -60,7 +71,8 @@ opened-requires : tie.Need-opened-requires
 opened-requires c κs =
     let w = through (c .before .before) [] [] .comes in
     let p = part-end (now (c .before .before .before .before .before .before .before .before .before .before .before .before .args .piece)) (c .before .before .ran .given .0 .0) in
-    let d = length-drop (c .before .before .ran .given .0 .0) (now (c .before .before .before .before .before .before .before .before .before .before .before .before .args .piece)) in
+    let d = length-drop (c .before .before .ran .given .0 .0)
+        (now (c .before .before .before .before .before .before .before .before .before .before .before .before .args .piece)) in
     omega (arith, w .0, ap length p)
 
 enum-known-ran-2 : tie.Need-enum-known-ran-2
@@ -77,7 +89,10 @@ part-opened-end-2 c = search needs
 
 opened-requires-2 : tie.Need-opened-requires-2
 opened-requires-2 c κs =
-    let w = waits-few (lent (c .before .before .before .before .before .before .before .before .before .before .before .before) [] []) (drop (c .before .before .ran2 .given .0 .0) (now (c .before .before .before .before .before .before .before .before .before .before .before .before .args .piece))) (waiting (c .before .before) [] [] .comes .1) in
+    let w = waits-few (lent (c .before .before .before .before .before .before .before .before .before .before .before .before) [] [])
+        (drop (c .before .before .ran2 .given .0 .0)
+        (now (c .before .before .before .before .before .before .before .before .before .before .before .before .args .piece)))
+        (waiting (c .before .before) [] [] .comes .1) in
     let p = part-end (now (c .before .before .before .before .before .before .before .before .before .before .before .before .args .piece)) (c .before .before .ran2 .given .0 .0) in
     omega (arith, ap length p)
 
@@ -102,9 +117,11 @@ same-length c = search needs
 returns : tie.Need-returns
 returns c offsets blob before b =
     let a = c .before .before .before .before .before .before .before .before .before .before .before .before .before .args in
-    rest-through (lent (c .before .before .before .before .before .before .before .before .before .before .before .before .before) offsets blob) (now (a .piece)) (a .from) (a .count) (a .total) (a .total + length (now (a .piece))) _ _ before _ _ _ b
+    rest-through (lent (c .before .before .before .before .before .before .before .before .before .before .before .before .before) offsets
+        blob) (now (a .piece)) (a .from) (a .count) (a .total) (a .total + length (now (a .piece))) _ _ before _ _ _ b
     (through (c .before .before .before) offsets blob)
-    (c .opened .ensures .0, c .opened .ensures .1 ∙ ap (holding 0 (a .total + length (now (a .piece)))) (part-end (now (a .piece)) (c .before .before .before .ran .given .0 .0)))
+    (c .opened .ensures .0, c .opened .ensures .1 ∙ ap (holding 0 (a .total + length (now (a .piece))))
+        (part-end (now (a .piece)) (c .before .before .before .ran .given .0 .0)))
 
 same-length-2 : tie.Need-same-length-2
 same-length-2 c = search needs
@@ -112,9 +129,11 @@ same-length-2 c = search needs
 returns-2 : tie.Need-returns-2
 returns-2 c offsets blob before b =
     let a = c .before .before .before .before .before .before .before .before .before .before .before .before .before .args in
-    rest-waiting (lent (c .before .before .before .before .before .before .before .before .before .before .before .before .before) offsets blob) (now (a .piece)) (a .from) (a .count) (a .total) (a .total + length (now (a .piece))) _ _ before _ _ _ b
+    rest-waiting (lent (c .before .before .before .before .before .before .before .before .before .before .before .before .before) offsets
+        blob) (now (a .piece)) (a .from) (a .count) (a .total) (a .total + length (now (a .piece))) _ _ before _ _ _ b
     (waiting (c .before .before .before) offsets blob)
-    (c .opened2 .ensures .0, c .opened2 .ensures .1 ∙ ap (holding 0 (a .total + length (now (a .piece)))) (part-end (now (a .piece)) (c .before .before .before .ran2 .given .0 .0)))
+    (c .opened2 .ensures .0, c .opened2 .ensures .1 ∙ ap (holding 0 (a .total + length (now (a .piece))))
+        (part-end (now (a .piece)) (c .before .before .before .ran2 .given .0 .0)))
 
 same-length-3 : tie.Need-same-length-3
 same-length-3 c = search needs
@@ -122,7 +141,8 @@ same-length-3 c = search needs
 returns-3 : tie.Need-returns-3
 returns-3 c offsets blob before b =
     let a = c .before .before .before .before .before .before .before .before .before .before .before .before .before .args in
-    rest-stuck (lent (c .before .before .before .before .before .before .before .before .before .before .before .before .before) offsets blob) (now (a .piece)) (a .from) (a .count) (a .total) (a .total + length (now (a .piece))) _ _ before _ _ _ b
+    rest-stuck (lent (c .before .before .before .before .before .before .before .before .before .before .before .before .before) offsets
+        blob) (now (a .piece)) (a .from) (a .count) (a .total) (a .total + length (now (a .piece))) _ _ before _ _ _ b
     (stuck (c .before .before .before) offsets blob) (c .stopped .ensures)
 
 pub take-rest-spec : {M : Type 1} → statement M

@@ -1,4 +1,5 @@
--- `stream::undecided_at` meets its contract: each return is a case of `undecidedOn`, told by the bytes left and their walk. Assumes nothing.
+-- `stream::undecided_at` meets its contract: each return is a case of `undecidedOn`, told by the bytes left and their walk. Assumes
+-- nothing.
 use mathlib.Core.Path.{_∙_}
 use native.Mathlib.Omega.{arith}
 use denote.Ref.{now}
@@ -36,13 +37,15 @@ returns-3 : tie.Need-returns-3
 returns-3 c single offsets blob =
     let a = c .before .before .before .before .before .before .before .before .args in
     at-unused (memory single offsets blob (now (a .roots)) (now (a .table))) (now (a .src)) (a .i) (omega arith)
-    (walkOf (c .before .before .walk-at .result)) (c .before .before .walk-at .ensures single offsets blob) (c .before .before .before .if2 .left) (c .if3 .taken)
+    (walkOf (c .before .before .walk-at .result)) (c .before .before .walk-at .ensures single offsets blob)
+        (c .before .before .before .if2 .left) (c .if3 .taken)
 
 returns-4 : tie.Need-returns-4
 returns-4 c single offsets blob =
     let a = c .before .before .before .before .before .before .before .before .before .args in
     at-used (memory single offsets blob (now (a .roots)) (now (a .table))) (now (a .src)) (a .i) (omega arith)
-    (walkOf (c .before .before .before .walk-at .result)) (c .before .before .before .walk-at .ensures single offsets blob) (c .before .before .before .before .if2 .left) (c .before .if3 .left) (omega arith)
+    (walkOf (c .before .before .before .walk-at .result)) (c .before .before .before .walk-at .ensures single offsets blob)
+        (c .before .before .before .before .if2 .left) (c .before .if3 .left) (omega arith)
 
 pub undecided-at-spec : {M : Type 1} → statement M
 undecided-at-spec =

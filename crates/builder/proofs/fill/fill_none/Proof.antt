@@ -12,7 +12,8 @@ use Rattle.builder.proofs.fill.fill_none.Statement.{statement}
 use Rattle.builder.proofs.fill.fill_none.Tie as tie
 
 abbrev Inv-loop : tie.InvT-loop
-Inv-loop cells₀ n k₀ cells k = (k ≤ n) × (length cells ≡ length cells₀) × (sets cells (0 + k) (drop k (replicate n (negsuc 0))) ≡ sets cells₀ 0 (replicate n (negsuc 0)))
+Inv-loop cells₀ n k₀ cells k = (k ≤ n) × (length cells ≡ length cells₀) × (sets cells (0 + k) (drop k (replicate n (negsuc 0)))
+    ≡ sets cells₀ 0 (replicate n (negsuc 0)))
 
 abbrev μ-loop : tie.MeasureT-loop
 μ-loop cells₀ n k₀ cells k = n - k
@@ -38,7 +39,8 @@ loop-again c =
     let p : l .k ≡ 0 + l .k = omega arith in
     let left : List ℤ = drop (l .k + 1) (replicate (c .before .before .args .n) (negsuc 0)) in
     let e = ap (λ (x : ℕ). sets (set (l .cells) x (negsuc 0)) (0 + (l .k + 1)) left) p in
-    (omega arith, simp length-set (l .inv .1), e ∙ fill-goes (l .cells) 0 (c .before .before .args .n) (l .k) (negsuc 0) (pos 0) (c .loop-test .taken) ∙ l .inv .2)
+    (omega arith, simp length-set (l .inv .1), e ∙ fill-goes (l .cells) 0 (c .before .before .args .n) (l .k) (negsuc 0) (pos 0)
+        (c .loop-test .taken) ∙ l .inv .2)
 
 same-length : tie.Need-same-length Inv-loop μ-loop
 same-length c = c .before .loop .inv .1
