@@ -1,6 +1,7 @@
 -- The steps of the passes of lossy decoding. Each says that what is left from here gives what was left from the start. Assumes nothing.
-use mathlib.Core.Path.{_≡_, refl, ap, sym, _∙_}
+use mathlib.Core.Path.{_≡_, refl, ap, sym, subst, _∙_}
 use mathlib.Core.List.{List, [], _∷_, _++_, append-assoc, append-nil}
+use mathlib.Core.Option.{none}
 use Prim.Native.Nat.{ℕ, _+_, _-_, _≤_, _<_}
 use native.Mathlib.Omega.{arith}
 use native.Mathlib.Numerals.{add-one}
@@ -8,29 +9,32 @@ use native.Mathlib.Nat.{add-zero, zero-add}
 use lib.ListN.{length, take, drop, getD, length-append, length-drop, length-replicate, drop-of-length-le, take-append-drop}
 use lib.Seq.{paste, length-paste, drop-cons, getD-take, getD-drop, take-length, length-take-le}
 use Rattle.spec.specs.Lists.{each, over}
-use Rattle.spec.specs.Utf8.{lossy}
+use Rattle.spec.specs.Utf8.{lossy, firstBad, isNone, well-formed-first}
 use Rattle.spec.specs.Memory.{Memory}
 use Rattle.spec.specs.Decode.{lookup}
-use Rattle.utf8.specs.Reader.{Turn, joined, run, run-nil, run-append, lossy-run, pushOf, finishOf}
+use Rattle.utf8.specs.Reader.{Turn, joined, run, run-nil, run-append, well-formed-run, lossy-run, pushOf, finishOf}
 use Rattle.utf8.specs.Means.{heldOf, heldAs, pushedAs, pushed-held, pushed-room, padded, padded-take}
 use Rattle.utf8.specs.declared.Held.{Held}
 use Rattle.utf8.specs.declared.Pushed.{Pushed}
 use Rattle.decoding.specs.declared.lossy.Progress.{Progress}
-use Rattle.decoding.specs.Lossy.{put, Reads, lossyFrom}
+use Rattle.decoding.specs.Lossy.{put, Reads, AsTheyAre, lossyFrom}
 use Rattle.decoding.proofs.Paste.{take-inside, drop-behind}
 
 -- ── a part of a slice, byte by byte ──────────────────────────────────
 
+pub part-size : (l : List ℕ) (start len : ℕ) → start + len ≤ length l → length (take len (drop start l)) ≡ len
+part-size l start len h = length-take-le len (drop start l) (simp length-drop (omega arith))
+
 pub part-next : (l : List ℕ) (start len k : ℕ) → start + len ≤ length l → k < len
     → drop k (take len (drop start l)) ≡ getD l (start + k) 0 ∷ drop (k + 1) (take len (drop start l))
 part-next l start len k h kl =
-    let size : length (take len (drop start l)) ≡ len = length-take-le len (drop start l) (simp length-drop (omega arith)) in
+    let size = part-size l start len h in
     drop-cons (take len (drop start l)) k 0 (omega arith)
     ∙ rw (getD-take len (drop start l) k 0 kl, getD-drop start l k 0, add-one)
 
 pub part-done : (l : List ℕ) (start len k : ℕ) → start + len ≤ length l → len ≤ k → drop k (take len (drop start l)) ≡ []
 part-done l start len k h lk =
-    let size : length (take len (drop start l)) ≡ len = length-take-le len (drop start l) (simp length-drop (omega arith)) in
+    let size = part-size l start len h in
     drop-of-length-le (take len (drop start l)) {i = k} (omega arith)
 
 -- ── reading bytes ────────────────────────────────────────────────────
@@ -279,3 +283,20 @@ finish-size h r p = (
   ap (λ (x : Pushed). length (x .bytes)) p ∙ simp (length-append, length-replicate) (omega (arith, finish-few h)),
   omega (arith, ap (λ (x : Pushed). x .len) p, finish-few h),
 )
+
+-- ── a token whose bytes stand as they are ────────────────────────────
+
+pub as-they-are : (held : Held) (t : List ℕ) → held .len ≡ 0 → firstBad t ≡ none → AsTheyAre (heldOf held) t
+as-they-are held t e w =
+    let empty : heldOf held ≡ [] = ap (λ (k : ℕ). take k (held .first ∷ held .second ∷ held .third ∷ [])) e in
+    subst (λ (h : List ℕ). AsTheyAre h t) (sym empty) (well-formed-run t (well-formed-first t ∙ ap isNone w))
+
+module _ (held : Held) (t : List ℕ) (n : ℕ) (e : AsTheyAre (heldOf held) t) where
+  pub stands-long : n + length (run (heldOf held) t .out) ≡ n + length t
+  stands-long = ap (λ (u : Turn). n + length (u .out)) e
+
+  pub stands-reads : (len : ℕ) → len ≡ length t → Reads (heldOf held) t n (record { held = held; len = n + len })
+  stands-reads len l = record { held = ap (λ (u : Turn). u .held) (sym e); len = ap (λ (k : ℕ). n + k) l ∙ sym stands-long }
+
+  pub stands-put : (d : List ℕ) (len : ℕ) → len ≡ length t → take n d ++ t ++ drop (n + len) d ≡ put d n (run (heldOf held) t .out)
+  stands-put d len l = ap (λ (k : ℕ). take n d ++ t ++ drop (n + k) d) l ∙ ap (λ (u : Turn). put d n (u .out)) (sym e)

@@ -31,6 +31,10 @@ lossyFrom h s = run h s .out ++ finishOf (run h s .held) .out
 abbrev pub put : List ℕ → ℕ → List ℕ → List ℕ
 put d at x = take at d ++ x ++ drop (at + length x) d
 
+-- with the bytes h held, the bytes t stand in the text as they are, and h is held after them
+abbrev pub AsTheyAre : List ℕ → List ℕ → Type 0
+AsTheyAre h t = run h t ≡ record { out = t; held = h }
+
 -- the bytes t were read after h were held and n bytes of text stood
 pub record Reads (h t : List ℕ) (n : ℕ) (p : Progress) : Type 0 where
   pub held : heldOf (p .held) ≡ run h t .held

@@ -2,6 +2,7 @@
 // the last two read them token by token, with the bytes of a character that one token begins and another ends held between.
 ghost use mathlib.Core.Path.{_≡_};
 ghost use Prim.Native.Nat.{_+_, _<_, _≤_};
+ghost use lib.Dec.{T};
 ghost use lib.ListN.{length, take, drop};
 ghost use Rattle.spec.specs.Lists.{each, over};
 ghost use Rattle.spec.specs.Utf8.{lossy};
@@ -9,7 +10,7 @@ ghost use Rattle.spec.specs.Decode.{lookup};
 ghost use Rattle.utf8.specs.Reader.{run};
 ghost use Rattle.utf8.specs.Means.{heldOf};
 ghost use Rattle.decoding.specs.Measured.{tokens};
-ghost use Rattle.decoding.specs.Lossy.{FirstAbsent, AllPresent, put, Reads, Grows, SizeIs};
+ghost use Rattle.decoding.specs.Lossy.{FirstAbsent, AllPresent, put, Reads, AsTheyAre, Grows, SizeIs};
 use crate::Span;
 use crate::copy;
 use utf8::Held;
@@ -40,8 +41,22 @@ enum Growth {
     Over,
 }
 
-// The bytes of a token, counted.
-fn size_token(blob: &[u8], start: usize, len: usize, from: Progress, room: usize) -> Growth
+// Whether a token's bytes stand in the text as they are: nothing is held, and they are UTF-8.
+fn stands(blob: &[u8], start: usize, len: usize, held: Held) -> bool
+    requires { ⌜ start + len ≤ length (now blob) ⌝ }
+    ensures { λ r. ⌜ (T r → AsTheyAre (heldOf held) (take len (drop start (now (blob .entry))))) ⌝ }
+{
+    if held.len > 0 {
+        return false;
+    }
+    match utf8::first_bad(&blob[start..start + len]) {
+        utf8::Text::WellFormed => true,
+        utf8::Text::BadAt(_) => false,
+    }
+}
+
+// The bytes of a token, counted one by one.
+fn size_bytes(blob: &[u8], start: usize, len: usize, from: Progress, room: usize) -> Growth
     requires { ⌜ (start + len ≤ length (now blob)) × (from .len ≤ room) ⌝ }
     ensures { λ r. ⌜ Grows (heldOf (from .held)) (take len (drop start (now (blob .entry)))) (from .len) room r ⌝ }
 {
@@ -58,6 +73,22 @@ fn size_token(blob: &[u8], start: usize, len: usize, from: Progress, room: usize
         k += 1;
     }
     Growth::To(Progress { held, len: n })
+}
+
+// The bytes of a token, counted.
+fn size_token(blob: &[u8], start: usize, len: usize, from: Progress, room: usize) -> Growth
+    requires { ⌜ (start + len ≤ length (now blob)) × (from .len ≤ room) ⌝ }
+    ensures { λ r. ⌜ Grows (heldOf (from .held)) (take len (drop start (now (blob .entry)))) (from .len) room r ⌝ }
+{
+    let held = from.held;
+    let n = from.len;
+    if stands(blob, start, len, held) {
+        if len > room - n {
+            return Growth::Over;
+        }
+        return Growth::To(Progress { held, len: n + len });
+    }
+    size_bytes(blob, start, len, from, room)
 }
 
 // The length of a text, or that it is longer than the room for it.
@@ -96,8 +127,8 @@ pub fn size_text(offsets: &[u32], blob: &[u8], ids: &[u32], room: usize) -> Size
     Size::Fits(n + last.len)
 }
 
-// The bytes of a token, with the text that they give written from out's cell `from.len` on.
-fn write_token(blob: &[u8], start: usize, len: usize, from: Progress, out: &mut [u8]) -> Progress
+// The bytes of a token one by one, with the text that they give written from out's cell `from.len` on.
+fn write_bytes(blob: &[u8], start: usize, len: usize, from: Progress, out: &mut [u8]) -> Progress
     requires { ⌜ (start + len ≤ length (now blob))
         × (from .len + length (run (heldOf (from .held)) (take len (drop start (now blob))) .out) ≤ length (now out)) ⌝ }
     ensures { λ r. ⌜ Reads (heldOf (from .held)) (take len (drop start (now (blob .entry)))) (from .len) r ⌝ }
@@ -116,6 +147,23 @@ fn write_token(blob: &[u8], start: usize, len: usize, from: Progress, out: &mut 
         k += 1;
     }
     Progress { held, len: n }
+}
+
+// The bytes of a token, with the text that they give written from out's cell `from.len` on.
+fn write_token(blob: &[u8], start: usize, len: usize, from: Progress, out: &mut [u8]) -> Progress
+    requires { ⌜ (start + len ≤ length (now blob))
+        × (from .len + length (run (heldOf (from .held)) (take len (drop start (now blob))) .out) ≤ length (now out)) ⌝ }
+    ensures { λ r. ⌜ Reads (heldOf (from .held)) (take len (drop start (now (blob .entry)))) (from .len) r ⌝ }
+    ensures { λ r. ⌜ now (out .exit) ≡ put (now (out .entry)) (from .len)
+        (run (heldOf (from .held)) (take len (drop start (now (blob .entry)))) .out) ⌝ }
+{
+    let held = from.held;
+    let n = from.len;
+    if stands(blob, start, len, held) {
+        copy::copy_bytes(blob, start, len, out, n);
+        return Progress { held, len: n + len };
+    }
+    write_bytes(blob, start, len, from, out)
 }
 
 // Writes the lossy text of ids that all have bytes, which is known to fit.

@@ -1,92 +1,47 @@
--- `decoding::lossy::size_token` meets its contract. The loop's invariant: the reader has taken the bytes passed, and its text so far fits.
--- Assumes nothing.
-use Prim.Native.Nat.{_+_, _-_, _≤_, zero-le}
+-- `decoding::lossy::size_token` meets its contract. Assumes nothing.
+use mathlib.Core.Path.{sym, subst}
 use native.Mathlib.Omega.{arith}
+use lib.Dec.{T}
+use lib.ListN.{take, drop}
 use borrow.Author.Needs.{needs}
-use lib.ListN.{take, drop, getD}
-use Rattle.utf8.specs.Means.{heldOf}
-use Rattle.decoding.proofs.Reading.{Along, along-none, along-more, along-room, along-all, part-next, part-done}
+use Rattle.decoding.proofs.Reading.{part-size, stands-long, stands-reads}
 use Rattle.decoding.proofs.lossy.size_token.Statement.{statement}
 use Rattle.decoding.proofs.lossy.size_token.Tie as tie
 
-abbrev Inv-loop : tie.InvT-loop
-Inv-loop blob start len room held₀ n₀ k₀ held n k =
-    (n ≤ room) × (k ≤ len)
-    × Along (heldOf held₀) (take len (drop start blob)) n₀ held n (drop k (take len (drop start blob)))
+stands-requires : tie.Need-stands-requires
+stands-requires c κs = search needs
 
-abbrev μ-loop : tie.MeasureT-loop
-μ-loop blob start len room held₀ n₀ k₀ held n k = len - k
+sub-if2 : tie.Need-sub-if2
+sub-if2 c = search needs
 
-loop-holds : tie.Need-loop-holds Inv-loop μ-loop
-loop-holds c = (omega arith, zero-le, along-none _ _ _)
-
-add-push : tie.Need-add-push Inv-loop μ-loop
-add-push c = omega arith
-
-shared-slice-read-push : tie.Need-shared-slice-read-push Inv-loop μ-loop
-shared-slice-read-push c = omega arith
-
-push-requires : tie.Need-push-requires Inv-loop μ-loop
-push-requires c κs = search needs
-
-sub-if1 : tie.Need-sub-if1 Inv-loop μ-loop
-sub-if1 c = omega arith
-
-returns : tie.Need-returns Inv-loop μ-loop
+returns : tie.Need-returns
 returns c =
-    let a = c .before .before .before .before .before .before .before .before .args in
-    let l = c .before .before .before .before .before .loop in
+    let a = c .before .before .before .before .before .args in
+    let p = c .before .before .before .before .before .pre in
     let t = take (a .len) (drop (a .start) (a .blob .now)) in
-    let b = getD (a .blob .now) (a .start + l .k) 0 in
-    let e = part-next (a .blob .now) (a .start) (a .len) (l .k) (omega arith) (omega arith) in
-    let r = c .before .before .push .result in
-    let q = c .before .before .push .ensures in
-    omega (arith, along-room (heldOf (a .from .held)) t (a .from .len) (l .held) (l .n) b _ _ e (l .inv .2) r q)
+    let e = c .before .before .stands .ensures (subst T (sym (c .before .if1 .taken)) tt) in
+    omega (arith, stands-long (a .from .held) t (a .from .len) e, part-size (a .blob .now) (a .start) (a .len) (p .0), c .if2 .taken)
 
-add-n : tie.Need-add-n Inv-loop μ-loop
-add-n c = omega arith
+add-t9 : tie.Need-add-t9
+add-t9 c = search needs
 
-add-k : tie.Need-add-k Inv-loop μ-loop
-add-k c = omega arith
-
-loop-less : tie.Need-loop-less Inv-loop μ-loop
-loop-less c = omega arith
-
-loop-again : tie.Need-loop-again Inv-loop μ-loop
-loop-again c =
-    let a = c .before .before .before .before .before .before .before .before .before .before .args in
-    let l = c .before .before .before .before .before .before .before .loop in
-    let t = take (a .len) (drop (a .start) (a .blob .now)) in
-    let b = getD (a .blob .now) (a .start + l .k) 0 in
-    let e = part-next (a .blob .now) (a .start) (a .len) (l .k) (omega arith) (omega arith) in
-    let r = c .before .before .before .before .push .result in
-    let q = c .before .before .before .before .push .ensures in
-    (omega arith, omega arith, along-more (heldOf (a .from .held)) t (a .from .len) (l .held) (l .n) b _ _ e (l .inv .2) r q)
-
-returns-2 : tie.Need-returns-2 Inv-loop μ-loop
+returns-2 : tie.Need-returns-2
 returns-2 c =
-    let a = c .before .before .before .before .args in
-    let l = c .before .loop in
-    let t = take (a .len) (drop (a .start) (a .blob .now)) in (
-      along-all (heldOf (a .from .held)) t (a .from .len) (l .held) (l .n) _
-          (part-done (a .blob .now) (a .start) (a .len) (l .k) (omega arith) (c .loop-test .left)) (l .inv .2),
-      l .inv .0,
+    let a = c .before .before .before .before .before .args in
+    let p = c .before .before .before .before .before .pre in
+    let t = take (a .len) (drop (a .start) (a .blob .now)) in
+    let e = c .before .before .stands .ensures (subst T (sym (c .before .if1 .taken)) tt) in (
+      stands-reads (a .from .held) t (a .from .len) e (a .len) (sym (part-size (a .blob .now) (a .start) (a .len) (p .0))),
+      omega (arith, p .1, c .if2 .left),
     )
+
+size-bytes-requires : tie.Need-size-bytes-requires
+size-bytes-requires c κs = search needs
+
+returns-3 : tie.Need-returns-3
+returns-3 c = search needs
 
 pub size-token-spec : {M : Type 1} → statement M
 size-token-spec =
     tie.close
-    (tie.spec
-    Inv-loop
-    μ-loop
-    loop-holds
-    add-push
-    shared-slice-read-push
-    push-requires
-    sub-if1
-    returns
-    add-n
-    add-k
-    loop-less
-    loop-again
-    returns-2)
+    (tie.spec stands-requires sub-if2 returns add-t9 returns-2 size-bytes-requires returns-3)
