@@ -58,8 +58,12 @@ extern "C" {
 #define RWKV_OFFSETS 65537
 #define RWKV_ROOTS 65536
 
-/* A trie node of the work memory is six numbers. */
-#define RWKV_NODE 6
+/* A trie node of the work memory. What it holds before and after a load is anything. */
+typedef struct {
+    uint32_t head, tail, next;
+    uint16_t term, count;
+    uint8_t label;
+} rwkv_node;
 
 /* The vocabulary memory, shared: what every call but rwkv_load is given first. */
 #define RWKV_MEMORY                                                                                                        \
@@ -70,7 +74,7 @@ extern "C" {
  * Report: place kind (0 none, 1 line, 2 offset, 3 byte), place, tokens, nodes, blob bytes, table words. */
 uint32_t rwkv_load(const uint8_t *text, size_t text_len, bool partial, int32_t *single, size_t single_len, uint32_t *offsets,
                    size_t offsets_len, uint8_t *blob, size_t blob_len, uint64_t *roots, size_t roots_len, uint64_t *table,
-                   size_t table_len, uint32_t *nodes, size_t nodes_len, uint64_t *used, size_t used_len, uint64_t *used_bases,
+                   size_t table_len, rwkv_node *nodes, size_t nodes_len, uint64_t *used, size_t used_len, uint64_t *used_bases,
                    size_t used_bases_len, uint64_t report[6]);
 
 /* Encodes src. Report: count, offset, byte. */

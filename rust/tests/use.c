@@ -8,7 +8,7 @@ static int32_t single[RWKV_SINGLE];
 static uint32_t offsets[RWKV_OFFSETS];
 static uint8_t blob[64];
 static uint64_t roots[RWKV_ROOTS], table[4 * 256], used[4 * 4], used_bases[4 * 4];
-static uint32_t nodes[16 * RWKV_NODE];
+static rwkv_node nodes[16];
 
 #define LEN(array) (sizeof(array) / sizeof(array)[0])
 #define PART(array) (array), LEN(array)

@@ -56,10 +56,10 @@ module _ (wanted len : ℕ) (t : Token) (is : length (t .bytes) ≡ len) where
       unfolding lengthRule
       length-long e =
           holds 13 _ some-bytes ∙ holds 14 _ (eq-eqb (length (t .bytes)) wanted (is ∙ b))
-              ∙ fails 15 _ (lt-leb (length (t .bytes)) 255 (omega arith))
+          ∙ fails 15 _ (lt-leb (length (t .bytes)) 255 (omega arith))
 
       pub length-good : len ≤ 255 → lengthRule wanted t ≡ pass t
       unfolding lengthRule
       length-good e =
           holds 13 _ some-bytes ∙ holds 14 _ (eq-eqb (length (t .bytes)) wanted (is ∙ b))
-              ∙ holds 15 _ (le-leb (length (t .bytes)) 255 (omega arith))
+          ∙ holds 15 _ (le-leb (length (t .bytes)) 255 (omega arith))

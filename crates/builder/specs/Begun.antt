@@ -8,6 +8,7 @@ use lib.IntN.{ℤ, pos, negsuc}
 use lib.ListN.{length, take, drop, getD, replicate, length-append, length-replicate, getD-replicate, List·getD-append}
 use Rattle.spec.specs.Lists.{each, fold, over}
 use Rattle.spec.specs.Token.{idOf}
+use Rattle.trie.specs.Run.{Nodes}
 use Rattle.spec.specs.Trie.{nodes, nodeCount}
 use Rattle.spec.specs.Memory.{Memory, memory, idOrNone, lengthBefore, singleList, blobBytes, padded, emptied}
 use Rattle.spec.specs.Load.{lastId}
@@ -42,7 +43,7 @@ no-blob n l e =
     let k : n ≡ length l - 0 = (let j = ap length e ∙ length-replicate n 0 in omega arith) in
     e ∙ ap (λ (x : ℕ). replicate x 0) k
 
-module _ (s : List ℤ) (os bl rs ns : List ℕ) where
+module _ (s : List ℤ) (os bl rs : List ℕ) (ns : Nodes) where
   pub none-built : Built [] (over (replicate 256 (negsuc 0)) s) (over (replicate 65537 0) os) (replicate (length bl) 0)
       (over (replicate 65536 0) rs) ns begun
   unfolding lastId nodeCount nodes fold each lengthBefore

@@ -18,8 +18,15 @@ use Rattle.spec.specs.Layout.{tableWords}
 use Rattle.spec.specs.Valid.{Valid}
 use Rattle.spec.specs.Memory.{lengthBefore, singleList, offsetList, blobBytes, rootList, tableList, padded}
 use Rattle.spec.specs.Load.{Room, admit, lastId, nowhere, byte, accepted, refused, finish}
-use Rattle.trie.specs.Run.{room}
+use Rattle.trie.specs.Run.{Nodes, room}
 use Rattle.trie.specs.Stands.{Stands}
+use Rattle.trie.specs.declared.Inserted.{Inserted}
+use Rattle.trie.specs.declared.Inserted.the-variants as Inserted
+use Rattle.trie.specs.declared.Inserted.the-variants.{Duplicate, Made}
+use Rattle.packing.specs.declared.Packed.{Packed as Packing}
+use Rattle.packing.specs.declared.Packed.the-variants.{Words, NoRoom}
+use Rattle.builder.specs.declared.Stop.{Stop}
+use Rattle.builder.specs.declared.Stop.the-variants as Stop
 use Rattle.builder.specs.declared.Build.{Build}
 use Rattle.builder.specs.declared.Pushed.{Pushed}
 use Rattle.builder.specs.declared.Pushed.the-variants.{Taken, Refused}
@@ -32,7 +39,7 @@ use Rattle.builder.specs.declared.Finished.the-variants.{Packed, NoToken
 
 -- The first cells of `single` and offsets, the blob, the roots and the nodes are those of the tokens: offsets up to the last id, zeros in
 -- the blob behind the bytes, node numbers in the roots. `st` counts them. Node 0 needs room too, so without any there is no token.
-pub record Built (ts : List Token) (s : List ℤ) (os bl rs ns : List ℕ) (st : Build) : Type 0 where
+pub record Built (ts : List Token) (s : List ℤ) (os bl rs : List ℕ) (ns : Nodes) (st : Build) : Type 0 where
   pub valid : Valid ts
   pub previous : st .previous ≡ lastId ts
   pub tokens : st .tokens ≡ length ts
@@ -60,11 +67,11 @@ pub record Small (st : Build) : Type 0 where
 -- ---- a token more
 
 -- the room that a push is given: the table plays no part in it
-abbrev pub roomFor : List ℕ → List ℕ → ℕ → Room
+abbrev pub roomFor : Nodes → List ℕ → ℕ → Room
 roomFor ns bl table = record { nodes = room ns; blob = length bl; table = table }
 
 -- Taken: 16 to 18 passed, and the memory holds the tokens with this one. Refused: by the number that the table gives.
-abbrev pub PushedAs : Room → List Token → Token → Pushed → List ℤ → List ℕ → List ℕ → List ℕ → List ℕ → Type 0
+abbrev pub PushedAs : Room → List Token → Token → Pushed → List ℤ → List ℕ → List ℕ → List ℕ → Nodes → Type 0
 PushedAs r ts t (Taken st) s os bl rs ns = (admit r ts t ≡ pass (ts ++ (t ∷ []))) × Built (ts ++ (t ∷ [])) s os bl rs ns st
 PushedAs r ts t (Refused n) s os bl rs ns = admit r ts t ≡ refuse n
 
@@ -74,6 +81,14 @@ PushedAs r ts t (Refused n) s os bl rs ns = admit r ts t ≡ refuse n
 abbrev pub isTaken : ℤ → Bool
 isTaken (pos n) = true
 isTaken (negsuc n) = false
+
+-- 17: no node for the token
+abbrev pub noRoom : Inserted
+noRoom = Inserted.NoRoom
+
+-- a token of one byte among the others: seen before, or no node more
+abbrev pub oneEntered : List ℤ → ℕ → ℕ → Inserted
+oneEntered s made b = cond (isTaken (getD s b (pos 0))) Duplicate (Made made)
 
 -- a token of one byte has its id in `single`
 unfoldable pub setSingle : List ℤ → ℕ → List ℕ → List ℤ
@@ -111,3 +126,19 @@ FinishedAs partial r ts (Packed n) os rs tb os′ rs′ tb′ =
 FinishedAs partial r ts NoTokens os rs tb os′ rs′ tb′ = finish partial r ts ≡ refused 19 nowhere
 FinishedAs partial r ts (Wanting b) os rs tb os′ rs′ tb′ = finish partial r ts ≡ refused 20 (byte b)
 FinishedAs partial r ts NoTable os rs tb os′ rs′ tb′ = finish partial r ts ≡ refused 21 nowhere
+
+-- the answer after packing
+abbrev pub finishedOf : Packing → Finished
+finishedOf (Words n) = Packed n
+finishedOf NoRoom = NoTable
+
+-- whether a build stops before packing, and its answer then
+abbrev pub isStop : Stop → Bool
+isStop Stop.NoTokens = true
+isStop (Stop.Wanting b) = true
+isStop Stop.Nothing = false
+
+abbrev pub finishedBy : Stop → Finished
+finishedBy Stop.NoTokens = NoTokens
+finishedBy (Stop.Wanting b) = Wanting b
+finishedBy Stop.Nothing = NoTable

@@ -13,6 +13,7 @@ use lib.Seq.{length-sets}
 use borrow.Author.Tests.{leb-true, leb-false}
 use Rattle.spec.specs.Lists.{over, upFrom}
 use Rattle.spec.specs.Token.{Token}
+use Rattle.trie.specs.Run.{Nodes}
 use Rattle.spec.specs.Layout.{tableWords}
 use Rattle.spec.specs.Memory.{memory, lengthBefore, singleList, offsetList}
 use Rattle.spec.specs.Load.{Room, tableRoom, nowhere, byte, Outcome, accepted, refused, missing, demanded, finish}
@@ -50,12 +51,12 @@ unfolding missingOn missing
 missing-is ts low s e zero b h = refl
 missing-is ts low s e (suc n) b h =
     ap₂ (λ (c : Bool) (o : Option ℕ). cond c o (some b)) (taken-seen ts low s e b (omega arith))
-        (missing-is ts low s e n (suc b) (omega arith))
+    (missing-is ts low s e n (suc b) (omega arith))
 
 -- ---- the offsets behind the last id
 
-module _ {ts : List Token} {s : List ℤ} {os bl rs ns : List ℕ} {st : Build} (B : Built ts s os bl rs ns st) (long : 65537 ≤ length os)
-    (small : st .previous < 65536) where
+module _ {ts : List Token} {s : List ℤ} {os bl rs : List ℕ} {ns : Nodes} {st : Build} (B : Built ts s os bl rs ns st)
+    (long : 65537 ≤ length os) (small : st .previous < 65536) where
   offsets-end : (i : ℕ) → i < 65537 → getD (setOffsets os (st .previous) 65536 (st .used)) i 0 ≡ lengthBefore ts i
   offsets-end i h = go (either (leb i (st .previous)))
     where
@@ -70,7 +71,7 @@ module _ {ts : List Token} {s : List ℤ} {os bl rs ns : List ℕ} {st : Build} 
           let q = B .previous in
           ap (λ (x : ℕ). getD (setOffsets os (st .previous) 65536 (st .used)) x 0) (sym k)
           ∙ run-in (replicate (65536 - st .previous) (st .used)) os (st .previous + 1) (i - (st .previous + 1)) 0 (omega arith)
-              (omega arith)
+          (omega arith)
           ∙ getD-replicate (65536 - st .previous) (i - (st .previous + 1)) (st .used) 0 (omega arith)
           ∙ B .used ∙ sym (before-all ts i (λ u mu. let w = last-most 0 ts (B .valid .rising) u mu in omega arith))
 
@@ -85,7 +86,7 @@ module _ {ts : List Token} {s : List ℤ} {os bl rs ns : List ℕ} {st : Build} 
       let O : List ℕ = setOffsets os (st .previous) 65536 (st .used) in
       let w = length-sets os (st .previous + 1) (replicate (65536 - st .previous) (st .used)) in
       over-of 65537 O (upFrom (lengthBefore ts) 65537 0) os (by-index O (lengthBefore ts) 65537 0 (omega arith) offsets-end)
-          (offset-length ts) kept-end
+      (offset-length ts) kept-end
 
 -- ---- 19, 20 and 21, for each way that the end can go
 
@@ -104,7 +105,7 @@ module _ (partial : Bool) (r : Room) where
   finish-some [] e = absurd (e refl)
   finish-some (t ∷ ts) e = refl
 
-  module _ {ts : List Token} {s : List ℤ} {os bl rs ns : List ℕ} {st : Build} (B : Built ts s os bl rs ns st)
+  module _ {ts : List Token} {s : List ℤ} {os bl rs : List ℕ} {ns : Nodes} {st : Build} (B : Built ts s os bl rs ns st)
       (tb os′ rs′ tb′ : List ℕ) where
     abbrev As : Finished → Type 0
     As f = FinishedAs partial r ts f os rs tb os′ rs′ tb′
@@ -166,6 +167,6 @@ end-kept {s} {os} previous total h e k = record {
   single = refl;
   offsets = ap (drop 65537) e
       ∙ run-behind (replicate (65536 - previous) total) os (previous + 1) 65537 (let l = length-replicate (65536 - previous) total in
-          omega arith);
+      omega arith);
   roots = k;
 }

@@ -2,8 +2,17 @@
 use mathlib.Core.Path.{_≡_, refl, sym, ap, ap₂, _∙_, subst}
 use mathlib.Core.Logic.{_⊎_, inl, inr}
 use mathlib.Core.Bool.{Bool, true, false, not, cond}
-use mathlib.Core.List.{List, [], _∷_, _++_, append-nil, List·Memᴰ as Mem, List·Memᴰ·head as here, List·Memᴰ·tail as there,
-    List·Memᴰ·not-nil as not-nil}
+use mathlib.Core.List.{
+  List,
+  [],
+  _∷_,
+  _++_,
+  append-nil,
+  List·Memᴰ as Mem,
+  List·Memᴰ·head as here,
+  List·Memᴰ·tail as there,
+  List·Memᴰ·not-nil as not-nil,
+}
 use Prim.Native.Nat.{ℕ, zero, suc, _+_, _-_, _*_, _^_, _≤_, _<_, min}
 use native.Mathlib.Omega.{arith}
 use lib.IntN.{ℤ, pos}
@@ -24,7 +33,7 @@ use Rattle.laws.specs.Reads.{listed}
 use Rattle.laws.specs.Spans.{before-all}
 use Rattle.laws.specs.Bounds.{nodeCount-small}
 use Rattle.loading.specs.Accepted.{Reads, valid-snoc}
-use Rattle.trie.specs.Run.{room}
+use Rattle.trie.specs.Run.{Nodes, room}
 use Rattle.trie.specs.Insertion.{State, rooted, after, After, insertOn, rootMade}
 use Rattle.trie.specs.Turns.{yes-case, no-case}
 use Rattle.trie.specs.Stands.{Stands, Grown, answerFor}
@@ -164,7 +173,7 @@ noRoom≢made n e = let z : _≡_ {A = ℕ} 0 1 = cc in omega arith
 
 -- ---- what `enter` finds, for each way it can go
 
-module _ {ts : List Token} {s : List ℤ} {os bl rs ns : List ℕ} {st : Build} (B : Built ts s os bl rs ns st) (t : Token)
+module _ {ts : List Token} {s : List ℤ} {os bl rs : List ℕ} {ns : Nodes} {st : Build} (B : Built ts s os bl rs ns st) (t : Token)
     (r : Reads (lastId ts) t) where
   low : (u : Token) → Mem u ts → 1 ≤ u .id
   low = B .stands .low
@@ -203,36 +212,22 @@ module _ {ts : List Token} {s : List ℤ} {os bl rs ns : List ℕ} {st : Build} 
     enter-one e = record {
       answer = ap Made (sym count-same)
           ∙ sym (no-case _ _ (sym cell ∙ e)
-              ∙ yes-case _ _ (le-leb (nodeCount (ts ++ (t ∷ []))) (room ns) (let c = count-same in omega arith)));
+          ∙ yes-case _ _ (le-leb (nodeCount (ts ++ (t ∷ []))) (room ns) (let c = count-same in omega arith)));
       stands = λ n k. subst (λ (l : List ℕ). Stands (ts ++ (record { id = t .id; bytes = l } ∷ [])) rs ns) (sym bytes-are)
           (stands-one ts rs ns (t .id) b idl (B .stands));
     }
 
   -- two bytes or more
-  pub enter-more : (cap : ℕ) → cap ≡ min (room ns) 4294967295 → (rs′ ns′ : List ℕ) (a : Inserted) → Grown ts t cap a rs′ ns′
+  pub enter-more : (cap : ℕ) → cap ≡ min (room ns) 4294967295 → (rs′ : List ℕ) (ns′ : Nodes) (a : Inserted) → Grown ts t cap a rs′ ns′
       → Grown ts t (room ns) a rs′ ns′
-  enter-more cap e rs′ ns′ a G = record { answer = G .answer ∙ ap (answerFor ts t) e ∙ answer-cap ts (B .valid) t r (room ns); stands =
-      G .stands }
-
--- insertion changes no cell behind the roots
-roots-kept : (rs : List ℕ) (at new : ℕ) (p q w : Bool) (a b c d : State) → at < 65536
-    → drop 65536 (cond p (cond q (rooted rs a) (rooted (set rs at new) b)) (cond w (rooted rs c) (rooted rs d)) .roots) ≡ drop 65536 rs
-roots-kept rs at new true true w a b c d h = refl
-roots-kept rs at new true false w a b c d h = drop-set-lt 65536 rs at new h
-roots-kept rs at new false q true a b c d h = refl
-roots-kept rs at new false q false a b c d h = refl
-
-pub insert-keeps : (most : ℕ) (rs ns : List ℕ) (made : ℕ) (bs : List ℕ) (id : ℕ) → getD bs 0 0 < 256 → getD bs 1 0 < 256
-    → (rs′ ns′ : List ℕ) (a : Inserted) → after rs′ ns′ a ≡ insertOn most rs ns made bs id → drop 65536 rs′ ≡ drop 65536 rs
-unfolding insertOn rootMade
-insert-keeps most rs ns made bs id h k rs′ ns′ a e =
-    let at : ℕ = getD bs 0 0 * 256 + getD bs 1 0 in
-    ap (λ (x : After). drop 65536 (x .roots)) e
-    ∙ roots-kept rs at made (eqb (getD rs at 0) 0) (leb most made) (leb made (getD rs at 0)) _ _ _ _ (omega arith)
+  enter-more cap e rs′ ns′ a G = record {
+    answer = G .answer ∙ ap (answerFor ts t) e ∙ answer-cap ts (B .valid) t r (room ns);
+    stands = G .stands;
+  }
 
 -- ---- what 16 to 18 say, for each answer of `enter`
 
-module _ (ts : List Token) (t : Token) (ns bl rs′ ns′ : List ℕ) (table : ℕ) where
+module _ (ts : List Token) (t : Token) (ns : Nodes) (bl rs′ : List ℕ) (ns′ : Nodes) (table : ℕ) where
   abbrev R : Room
   R = roomFor ns bl table
 
@@ -299,10 +294,10 @@ module _ (ts : List Token) (t : Token) (ns bl rs′ ns′ : List ℕ) (table : �
 
 -- ---- the token's own cells
 
-module _ {ts : List Token} {s : List ℤ} {os bl rs ns : List ℕ} {st : Build} (B : Built ts s os bl rs ns st) (t : Token)
+module _ {ts : List Token} {s : List ℤ} {os bl rs : List ℕ} {ns : Nodes} {st : Build} (B : Built ts s os bl rs ns st) (t : Token)
     (r : Reads (lastId ts) t)
     (new : seen ts (t .bytes) ≡ false) (single-fits : 256 ≤ length s) (offsets-fit : 65537 ≤ length os)
-        (blob-fits : st .used + length (t .bytes) ≤ length bl) where
+    (blob-fits : st .used + length (t .bytes) ≤ length bl) where
   abbrev ts′ : List Token
   ts′ = ts ++ (t ∷ [])
 
@@ -361,7 +356,7 @@ module _ {ts : List Token} {s : List ℤ} {os bl rs ns : List ℕ} {st : Build} 
   unfolding singleList
   single-list =
       by-index (setSingle s (t .id) bs) (λ (c : ℕ). idOrNone (idOf ts′ (c ∷ []))) 256 (pos 0) (let e = single-length in omega arith)
-          single-more
+      single-more
 
   -- every id so far is at most the last
   id-last : (u : Token) → Mem u ts → u .id ≤ st .previous
@@ -374,7 +369,7 @@ module _ {ts : List Token} {s : List ℤ} {os bl rs ns : List ℕ} {st : Build} 
       go (inl e) =
           let p = leb-true i (st .previous) e in
           run-before (replicate (t .id - st .previous) (st .used)) os (st .previous + 1) i 0 (omega arith) ∙ B .offsets i p
-              ∙ sym (before-snoc ts t i h)
+          ∙ sym (before-snoc ts t i h)
       go (inr e) =
           let p = leb-false i (st .previous) e in
           let a = r .above in
@@ -384,7 +379,7 @@ module _ {ts : List Token} {s : List ℤ} {os bl rs ns : List ℕ} {st : Build} 
           let z = r .small in
           ap (λ (x : ℕ). getD (setOffsets os (st .previous) (t .id) (st .used)) x 0) (sym k)
           ∙ run-in (replicate (t .id - st .previous) (st .used)) os (st .previous + 1) (i - (st .previous + 1)) 0 (omega arith)
-              (omega arith)
+          (omega arith)
           ∙ getD-replicate (t .id - st .previous) (i - (st .previous + 1)) (st .used) 0 (omega arith)
           ∙ B .used ∙ sym (before-all ts i (λ u mu. let w = id-last u mu in omega arith)) ∙ sym (before-snoc ts t i h)
 
@@ -394,7 +389,7 @@ module _ {ts : List Token} {s : List ℤ} {os bl rs ns : List ℕ} {st : Build} 
       ∙ pad-more bl (blobBytes ts) bs (B .blob) (let e = B .used in omega arith)
       ∙ ap (λ (l : List ℕ). padded l (length bl)) (sym (blob-snoc ts t))
 
-  pub built-more : (n : ℕ) (rs′ ns′ : List ℕ) → Grown ts t (room ns) (Made n) rs′ ns′ → length ns′ ≡ length ns
+  pub built-more : (n : ℕ) (rs′ : List ℕ) (ns′ : Nodes) → Grown ts t (room ns) (Made n) rs′ ns′ → length ns′ ≡ length ns
       → Built ts′ (setSingle s (t .id) bs) (setOffsets os (st .previous) (t .id) (st .used)) (sets bl (st .used) bs) rs′ ns′
       (record { previous = t .id; tokens = st .tokens + 1; made = n; used = st .used + length bs })
   built-more n rs′ ns′ G same =
@@ -432,12 +427,13 @@ offsets-kept os previous id total h k =
 -- ---- what `push` answers, for each answer of `enter`
 
 -- a token with an id above the last one and 1 to 255 bytes
-pub reads-of : {ts : List Token} {s : List ℤ} {os bl rs ns : List ℕ} {st : Build} → Built ts s os bl rs ns st → (t : Token)
+pub reads-of : {ts : List Token} {s : List ℤ} {os bl rs : List ℕ} {ns : Nodes} {st : Build} → Built ts s os bl rs ns st → (t : Token)
     → st .previous < t .id → t .id < 65536
     → 1 ≤ length (t .bytes) → length (t .bytes) ≤ 255 → Bytes (t .bytes) → Reads (lastId ts) t
 reads-of B t a b c d e = record { above = (let k = B .previous in omega arith); small = b; nonempty = c; short = d; bytes = e }
 
-same-built : {ts : List Token} {s s′ : List ℤ} {os os′ bl bl′ rs ns : List ℕ} {st st′ : Build} → s′ ≡ s → os′ ≡ os → bl′ ≡ bl → st′ ≡ st
+same-built : {ts : List Token} {s s′ : List ℤ} {os os′ bl bl′ rs : List ℕ} {ns : Nodes} {st st′ : Build} → s′ ≡ s → os′ ≡ os → bl′ ≡ bl
+    → st′ ≡ st
     → Built ts s os bl rs ns st → Built ts s′ os′ bl′ rs ns st′
 same-built {ts} {s} {s′} {os} {os′} {bl} {bl′} {rs} {ns} {st} {st′} a b c d B =
     subst (λ (x : List ℤ). Built ts x os′ bl′ rs ns st′) (sym a)
@@ -445,9 +441,9 @@ same-built {ts} {s} {s′} {os} {os′} {bl} {bl′} {rs} {ns} {st} {st′} a b 
     (subst (λ (x : List ℕ). Built ts s os x rs ns st′) (sym c)
     (subst (λ (x : Build). Built ts s os bl rs ns x) (sym d) B)))
 
-module _ {ts : List Token} {s : List ℤ} {os bl rs ns : List ℕ} {st : Build} (B : Built ts s os bl rs ns st) (t : Token)
+module _ {ts : List Token} {s : List ℤ} {os bl rs : List ℕ} {ns : Nodes} {st : Build} (B : Built ts s os bl rs ns st) (t : Token)
     (r : Reads (lastId ts) t)
-    (table : ℕ) (rs′ ns′ : List ℕ) (a : Inserted) (G : Grown ts t (room ns) a rs′ ns′) where
+    (table : ℕ) (rs′ : List ℕ) (ns′ : Nodes) (a : Inserted) (G : Grown ts t (room ns) a rs′ ns′) where
   abbrev As : Pushed → List ℤ → List ℕ → List ℕ → Type 0
   As p s′ os′ bl′ = PushedAs (roomFor ns bl table) ts t p s′ os′ bl′ rs′ ns′
 
@@ -468,7 +464,7 @@ module _ {ts : List Token} {s : List ℤ} {os bl rs ns : List ℕ} {st : Build} 
       → (s′ : List ℤ) → s′ ≡ setSingle s (t .id) (t .bytes) → (os′ : List ℕ) → os′ ≡ setOffsets os (st .previous) (t .id) (st .used)
       → (bl′ : List ℕ) → bl′ ≡ sets bl (st .used) (t .bytes)
       → (st′ : Build) → st′ ≡ record { previous = t .id; tokens = st .tokens + 1; made = n; used = st .used + length (t .bytes) }
-          → As (Taken st′) s′ os′ bl′
+      → As (Taken st′) s′ os′ bl′
   pushed-taken n e fs fo fb same s′ es os′ eo bl′ eb st′ est = (
     push-passes ts t ns bl rs′ ns′ table n (now-is e) (let k = B .used in omega arith),
     same-built es eo eb est (built-more B t r (entered ts t ns bl rs′ ns′ table n (now-is e) .new) fs fo fb n rs′ ns′ (now-is e) same),

@@ -3,20 +3,24 @@ mod fill;
 pub mod rules;
 
 ghost use mathlib.Core.Path.{_≡_};
+ghost use mathlib.Core.Bool.{not};
+ghost use mathlib.Core.Option.{none};
 ghost use mathlib.Core.List.{List, []};
-ghost use Prim.Native.Nat.{ℕ, _+_, _/_, _≤_, _<_, min};
+ghost use Prim.Native.Nat.{ℕ, _+_, _≤_, _<_, min};
 ghost use lib.IntN.{pos};
-ghost use lib.ListN.{length, drop};
+ghost use lib.Dec.{T, ltb};
+ghost use lib.ListN.{length, getD, take};
 ghost use lib.Seq.{sets};
 ghost use Rattle.spec.specs.Token.{Token};
 ghost use Rattle.spec.specs.Memory.{memory, emptied};
 ghost use Rattle.spec.specs.Load.{Room, tableRoom, lastId, demanded};
 ghost use Rattle.laws.specs.Reads.{LongEnough};
 ghost use Rattle.loading.specs.Accepted.{Reads};
-ghost use Rattle.trie.specs.Run.{room};
-ghost use Rattle.trie.specs.Stands.{Grown};
+ghost use Rattle.trie.specs.Run.{Nodes, room};
+ghost use Rattle.trie.specs.Stands.{Grown, RootsKept};
 ghost use Rattle.builder.specs.Built.{Built, Kept, Small, roomFor, PushedAs, isTaken, setSingle, setOffsets};
-ghost use Rattle.builder.specs.Built.{missingOn, missingOf, FinishedAs};
+ghost use Rattle.builder.specs.Built.{missingOn, missingOf, FinishedAs, noRoom, oneEntered, finishedOf, isStop, finishedBy};
+use trie::Node;
 
 // "After 3 to 21 the vocabulary memory is emptied: `single` all −1, the rest 0."
 pub fn empty(
@@ -64,7 +68,7 @@ pub fn begin(
     requires { ⌜ LongEnough (memory (now single) (now offsets) (now blob) (now roots) (now table)) ⌝ }
     ensures emptied { λ r. ⌜ memory (now (single .exit)) (now (offsets .exit)) (now (blob .exit)) (now (roots .exit)) (now (table .exit))
         ≡ emptied (memory (now (single .entry)) (now (offsets .entry)) (now (blob .entry)) (now (roots .entry)) (now (table .entry))) ⌝ }
-    ensures stands { λ r. ⌜ ((nodes : List ℕ)
+    ensures stands { λ r. ⌜ ((nodes : Nodes)
         → Built [] (now (single .exit)) (now (offsets .exit)) (now (blob .exit)) (now (roots .exit)) nodes r) ⌝ }
 {
     empty(single, offsets, blob, roots, table);
@@ -114,11 +118,10 @@ fn taken(x: i32) -> bool
     0 <= x
 }
 
-// How many nodes a run of this many numbers holds: as many as 32 bits count, and no vocabulary has more.
-fn capacity(numbers: usize) -> u32
-    ensures { λ r. ⌜ r ≡ min (numbers / 6) 4294967295 ⌝ }
+// How many nodes a run of this many records holds: as many as 32 bits count, and no vocabulary has more.
+fn capacity(nodes: usize) -> u32
+    ensures { λ r. ⌜ r ≡ min nodes 4294967295 ⌝ }
 {
-    let nodes = numbers / 6;
     if nodes < 4294967296 {
         return narrow(nodes);
     }
@@ -144,35 +147,57 @@ fn set_offsets(offsets: &mut [u32], previous: u16, id: u16, total: u32)
     fill::fill_u32(offsets, index(previous) + 1, index(id - previous), total);
 }
 
-// The token's bytes among the nodes, or 16 or 17. A token of one byte makes no node.
+fn no_room() -> trie::Inserted
+    ensures { λ r. ⌜ r ≡ noRoom ⌝ }
+{
+    trie::Inserted::NoRoom
+}
+
+// A token of one byte makes no node: seen before, or as many nodes as before.
+fn enter_one(single: &[i32], made: u32, bytes: &[u8]) -> trie::Inserted
+    requires { ⌜ (256 ≤ length (now single)) × (1 ≤ length (now bytes)) ⌝ }
+    ensures { λ r. ⌜ r ≡ oneEntered (now (single .entry)) made (getD (now (bytes .entry)) 0 0) ⌝ }
+{
+    let i = place(bytes[0]);
+    if taken(single[i]) {
+        return trie::Inserted::Duplicate;
+    }
+    trie::Inserted::Made(made)
+}
+
+// Whether more nodes are in use than there is room for. Where just as many are, a token that makes no node still has its place.
+fn is_full(most: u32, made: u32) -> bool
+    ensures { λ r. ⌜ r ≡ ltb most made ⌝ }
+{
+    most < made
+}
+
+// The token's bytes, the first n, among the nodes, or 16 or 17.
 fn enter(
     single: &[i32],
     roots: &mut [u64],
-    nodes: &mut [u32],
+    nodes: &mut [Node],
     st: Build,
     id: u16,
     bytes: &[u8],
+    n: usize,
 ) -> trie::Inserted
-    requires { ⌜ (256 ≤ length (now single)) × (65536 ≤ length (now roots)) × (1 ≤ length (now bytes)) × (1 ≤ st .made) ⌝ }
+    requires { ⌜ (256 ≤ length (now single)) × (65536 ≤ length (now roots)) × (1 ≤ n) × (n ≤ length (now bytes)) × (1 ≤ st .made) ⌝ }
     ensures stands { λ r. ⌜ ((ts : List Token) (os bl : List ℕ)
         → Built ts (now (single .entry)) os bl (now (roots .entry)) (now (nodes .entry)) st
-        → Reads (lastId ts) (record { id = id; bytes = now (bytes .entry) })
-        → Grown ts (record { id = id; bytes = now (bytes .entry) }) (room (now (nodes .entry))) r (now (roots .exit))
-            (now (nodes .exit))) ⌝ }
-    ensures kept { λ r. ⌜ drop 65536 (now (roots .exit)) ≡ drop 65536 (now (roots .entry)) ⌝ }
+        → Reads (lastId ts) (record { id = id; bytes = take n (now (bytes .entry)) })
+        → Grown ts (record { id = id; bytes = take n (now (bytes .entry)) }) (room (now (nodes .entry))) r (now (roots .exit))
+        (now (nodes .exit))) ⌝ }
+    ensures kept { λ r. ⌜ RootsKept (now (roots .entry)) (now (roots .exit)) ⌝ }
 {
     let most = capacity(nodes.len());
-    if most < st.made {
-        return trie::Inserted::NoRoom;
+    if is_full(most, st.made) {
+        return no_room();
     }
-    if bytes.len() == 1 {
-        let i = place(bytes[0]);
-        if taken(single[i]) {
-            return trie::Inserted::Duplicate;
-        }
-        return trie::Inserted::Made(st.made);
+    if n == 1 {
+        return enter_one(single, st.made, bytes);
     }
-    trie::insert(roots, nodes, most, st.made, bytes, id)
+    trie::insert(roots, nodes, most, st.made, bytes, n, id)
 }
 
 // The token's own cells.
@@ -201,38 +226,64 @@ fn counted(st: Build, id: u16, made: u32, len: usize) -> Build
     }
 }
 
-// One more token, with an id above the last and 1 to 255 bytes; or 16, 17 or 18.
+// One more token, whose bytes are among the nodes already, or 16, 17 or 18.
+fn push_entered(
+    single: &mut [i32],
+    offsets: &mut [u32],
+    blob: &mut [u8],
+    st: Build,
+    id: u16,
+    bytes: &[u8],
+    n: usize,
+    entered: trie::Inserted,
+) -> Pushed
+    requires { ⌜ (256 ≤ length (now single)) × (65537 ≤ length (now offsets)) × (1 ≤ n) × (n ≤ 255) × (n ≤ length (now bytes))
+        × (st .previous < id) × Small st ⌝ }
+    ensures stands { λ r. ⌜ ((table : ℕ) (ts : List Token) (rs rs′ : List ℕ) (ns ns′ : Nodes)
+        → Built ts (now (single .entry)) (now (offsets .entry)) (now (blob .entry)) rs ns st
+        → (Reads (lastId ts) (record { id = id; bytes = take n (now (bytes .entry)) })
+        → Grown ts (record { id = id; bytes = take n (now (bytes .entry)) }) (room ns) entered rs′ ns′) → length ns′ ≡ length ns
+        → PushedAs (roomFor ns (now (blob .entry)) table) ts (record { id = id; bytes = take n (now (bytes .entry)) }) r
+        (now (single .exit)) (now (offsets .exit)) (now (blob .exit)) rs′ ns′) ⌝ }
+    ensures kept { λ r. ⌜ ((rs rs′ : List ℕ) → RootsKept rs rs′
+        → Kept (now (single .entry)) (now (offsets .entry)) rs (now (single .exit)) (now (offsets .exit)) rs′) ⌝ }
+{
+    match entered {
+        trie::Inserted::Duplicate => Pushed::Refused(16),
+        trie::Inserted::NoRoom => Pushed::Refused(17),
+        trie::Inserted::Made(made) => {
+            if blob.len() < wide(st.used) + n {
+                return Pushed::Refused(18);
+            }
+            write(single, offsets, blob, st, id, &bytes[..n]);
+            Pushed::Taken(counted(st, id, made, n))
+        }
+    }
+}
+
+// One more token, the first n bytes, with an id above the last and 1 to 255 bytes; or 16, 17 or 18.
 pub fn push(
     single: &mut [i32],
     offsets: &mut [u32],
     blob: &mut [u8],
     roots: &mut [u64],
-    nodes: &mut [u32],
+    nodes: &mut [Node],
     st: Build,
     id: u16,
     bytes: &[u8],
+    n: usize,
 ) -> Pushed
-    requires { ⌜ LongEnough (memory (now single) (now offsets) [] (now roots) []) × (1 ≤ length (now bytes)) × (length (now bytes) ≤ 255)
+    requires { ⌜ LongEnough (memory (now single) (now offsets) [] (now roots) []) × (1 ≤ n) × (n ≤ 255) × (n ≤ length (now bytes))
         × (st .previous < id) × Small st ⌝ }
     ensures stands { λ r. ⌜ ((table : ℕ) (ts : List Token)
         → Built ts (now (single .entry)) (now (offsets .entry)) (now (blob .entry)) (now (roots .entry)) (now (nodes .entry)) st
-        → PushedAs (roomFor (now (nodes .entry)) (now (blob .entry)) table) ts (record { id = id; bytes = now (bytes .entry) }) r
+        → PushedAs (roomFor (now (nodes .entry)) (now (blob .entry)) table) ts (record { id = id; bytes = take n (now (bytes .entry)) }) r
         (now (single .exit)) (now (offsets .exit)) (now (blob .exit)) (now (roots .exit)) (now (nodes .exit))) ⌝ }
     ensures kept { λ r. ⌜ Kept (now (single .entry)) (now (offsets .entry)) (now (roots .entry))
         (now (single .exit)) (now (offsets .exit)) (now (roots .exit)) ⌝ }
 {
-    let entered = enter(single, roots, nodes, st, id, bytes);
-    match entered {
-        trie::Inserted::Duplicate => Pushed::Refused(16),
-        trie::Inserted::NoRoom => Pushed::Refused(17),
-        trie::Inserted::Made(made) => {
-            if blob.len() < wide(st.used) + bytes.len() {
-                return Pushed::Refused(18);
-            }
-            write(single, offsets, blob, st, id, bytes);
-            Pushed::Taken(counted(st, id, made, bytes.len()))
-        }
-    }
+    let entered = enter(single, roots, nodes, st, id, bytes, n);
+    push_entered(single, offsets, blob, st, id, bytes, n, entered)
 }
 
 // A byte without a one-byte token, or none.
@@ -284,6 +335,59 @@ pub enum Finished {
     NoTable,
 }
 
+// Why a build cannot end well before it is packed, or nothing.
+pub enum Stop {
+    NoTokens,
+    Wanting(u8),
+    Nothing,
+}
+
+// 19 and 20.
+fn stop_of(partial: bool, single: &[i32], st: Build) -> Stop
+    requires { ⌜ 256 ≤ length (now single) ⌝ }
+    ensures stops { λ r. ⌜ ((most : Room) (ts : List Token) (os bl rs : List ℕ) (ns : Nodes) (tb os′ rs′ tb′ : List ℕ)
+        → Built ts (now (single .entry)) os bl rs ns st → T (isStop r) → FinishedAs partial most ts (finishedBy r) os rs tb os′ rs′ tb′) ⌝ }
+    ensures goes { λ r. ⌜ (T (not (isStop r))
+        → (st .tokens ≡ 0 → ⊥) × (demanded partial (missingOn (now (single .entry)) 256 0) ≡ none)) ⌝ }
+{
+    if st.tokens == 0 {
+        return Stop::NoTokens;
+    }
+    match demanded_byte(partial, single) {
+        Missing::Byte(b) => Stop::Wanting(b),
+        Missing::Nothing => Stop::Nothing,
+    }
+}
+
+fn is_stop(stop: Stop) -> bool
+    ensures { λ r. ⌜ r ≡ isStop stop ⌝ }
+{
+    match stop {
+        Stop::NoTokens => true,
+        Stop::Wanting(_) => true,
+        Stop::Nothing => false,
+    }
+}
+
+fn finished_by(stop: Stop) -> Finished
+    ensures { λ r. ⌜ r ≡ finishedBy stop ⌝ }
+{
+    match stop {
+        Stop::NoTokens => Finished::NoTokens,
+        Stop::Wanting(b) => Finished::Wanting(b),
+        Stop::Nothing => Finished::NoTable,
+    }
+}
+
+fn finished_of(packed: packing::Packed) -> Finished
+    ensures { λ r. ⌜ r ≡ finishedOf packed ⌝ }
+{
+    match packed {
+        packing::Packed::Words(n) => Finished::Packed(n),
+        packing::Packed::NoRoom => Finished::NoTable,
+    }
+}
+
 // The end of a build: the offsets behind the last id, the roots and the table. The runs of marks are work memory.
 pub fn finish(
     partial: bool,
@@ -291,7 +395,7 @@ pub fn finish(
     offsets: &mut [u32],
     roots: &mut [u64],
     table: &mut [u64],
-    nodes: &mut [u32],
+    nodes: &mut [Node],
     used: &mut [u64],
     used_bases: &mut [u64],
     st: Build,
@@ -306,19 +410,11 @@ pub fn finish(
     ensures kept { λ r. ⌜ Kept (now (single .entry)) (now (offsets .entry)) (now (roots .entry))
         (now (single .entry)) (now (offsets .exit)) (now (roots .exit)) ⌝ }
 {
-    if st.tokens == 0 {
-        return Finished::NoTokens;
+    let stop = stop_of(partial, single, st);
+    if is_stop(stop) {
+        return finished_by(stop);
     }
-    let missing = demanded_byte(partial, single);
-    match missing {
-        Missing::Byte(b) => Finished::Wanting(b),
-        Missing::Nothing => {
-            set_total(offsets, st.previous, st.used);
-            let packed = packing::pack(nodes, st.made, roots, table, used, used_bases);
-            match packed {
-                packing::Packed::Words(n) => Finished::Packed(n),
-                packing::Packed::NoRoom => Finished::NoTable,
-            }
-        }
-    }
+    set_total(offsets, st.previous, st.used);
+    let packed = packing::pack(nodes, st.made, roots, table, used, used_bases);
+    finished_of(packed)
 }

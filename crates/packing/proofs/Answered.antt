@@ -13,11 +13,11 @@ use Rattle.spec.specs.Layout.{top, words, puts, tableWords}
 use Rattle.spec.specs.Valid.{Valid}
 use Rattle.laws.specs.Bounds.{tableWords-small}
 use Rattle.laws.specs.Fill.{write}
-use Rattle.trie.specs.Run.{see}
-use Rattle.trie.specs.Stands.{Stands}
+use Rattle.trie.specs.Run.{Nodes, see}
+use Rattle.trie.specs.Stands.{RootsKept, Stands}
 use Rattle.packing.specs.Search.{Bounds}
 use Rattle.packing.proofs.Steps.{yes-case, no-case}
-use Rattle.packing.specs.Nodes.{blocks, nodeWrites, rootWord}
+use Rattle.packing.specs.Nodes.{blocks, nodeWrites, rootWord, rootWords}
 use Rattle.packing.proofs.Filled.{Based, nodes-are, table-padded, roots-over}
 use Rattle.packing.specs.Walk.{Through}
 use Rattle.packing.specs.Answer.{capacity, answerFor, PackedAs}
@@ -76,18 +76,19 @@ pub words-pos : (ts : List Token) → 0 < tableWords ts
 unfolding tableWords words
 words-pos ts = omega arith
 
-module _ (ts : List Token) (v : Valid ts) (cap made w : ℕ) (rs m₀ t m t' rs' : List ℕ) (at : Front) (end : ℕ) where
+module _ (ts : List Token) (v : Valid ts) (cap made w : ℕ) (rs : List ℕ) (m₀ : Nodes) (t : List ℕ) (m : Nodes) (t' rs' : List ℕ)
+    (at : Front) (end : ℕ) where
   pub fits-answer : Stands ts rs m₀ → made ≡ nodeCount ts → 65536 ≤ length rs → cap ≤ length t → end * 64 ≤ cap
       → Through (nodes ts) (idOf ts) (puts ts) m at end → w ≡ 256 * (1 + at .high)
       → t' ≡ fold write (replicate (length t) 0) (nodeWrites (see m) made (made - 1) 1)
-      → rs' ≡ map (rootWord (see m) made) (take 65536 rs) ++ drop 65536 rs
+      → rs' ≡ rootWords (rootWord (see m) made) rs
       → PackedAs ts cap rs t (Words w) rs' t'
   unfolding answerFor tableWords words
   fits-answer S em hr ht hc T ew et er = record {
     answer = ap Words is ∙ sym (yes-case _ _ (le-leb (tableWords ts) cap fit));
     table = λ n e. et ∙ ap (λ (k : ℕ). fold write (replicate (length t) 0) (nodeWrites (see m) k (k - 1) 1)) em
         ∙ ap (fold write (replicate (length t) 0)) (nodes-are ts m D) ∙ table-padded ts v (length t) (omega (arith, fit));
-    roots = λ n e. er ∙ ap (λ (k : ℕ). map (rootWord (see m) k) (take 65536 rs) ++ drop 65536 rs) em
+    roots = λ n e. er ∙ ap (λ (k : ℕ). rootWords (rootWord (see m) k) rs) em
         ∙ roots-over ts m rs D (S .growing .root) hr;
   }
     where
@@ -101,7 +102,10 @@ module _ (ts : List Token) (v : Valid ts) (cap made w : ℕ) (rs m₀ t m t' rs'
       fit = let h = T .room in omega arith
 
 -- the cells past the roots stay as they were
-pub roots-behind : (f : ℕ → ℕ) (rs rs' : List ℕ) → 65536 ≤ length rs → rs' ≡ map f (take 65536 rs) ++ drop 65536 rs → drop 65536 rs'
-    ≡ drop 65536 rs
+pub roots-behind : (f : ℕ → ℕ) (rs rs' : List ℕ) → 65536 ≤ length rs → rs' ≡ rootWords f rs → RootsKept rs rs'
+unfolding rootWords
 roots-behind f rs rs' h e =
-    ap (drop 65536) e ∙ drop-at (map f (take 65536 rs)) (drop 65536 rs) 65536 (length-map (take 65536 rs) f ∙ length-take-le 65536 rs h)
+    record {
+      behind = ap (drop 65536) e ∙ drop-at (map f (take 65536 rs)) (drop 65536 rs) 65536 (length-map (take 65536 rs) f
+          ∙ length-take-le 65536 rs h);
+    }

@@ -23,16 +23,16 @@ use Rattle.laws.specs.Numbered.{number, Fresh, place-of, place-stays, place-new
 use Rattle.laws.specs.Chain.{kids}
 use Rattle.laws.specs.Listed.{up-length, up-at}
 use Rattle.laws.specs.Fill.{Write, write, writeAll, childWrite, writes, in-table, table-filled}
-use Rattle.trie.specs.Run.{see}
+use Rattle.trie.specs.Run.{Nodes, see}
 use Rattle.trie.specs.Stands.{Chain, num, Tree, Roots}
 use Rattle.trie.specs.Chains.{final-snoc, number-pos, number-lt, kid-lt, length-map, labels-few, num-in, num-out, member}
 use Rattle.trie.specs.declared.Node.{Node}
 use Rattle.packing.proofs.Steps.{yes-case, no-case}
-use Rattle.packing.specs.Nodes.{nodeWord, childWrites, nodeWrites, rootWord}
+use Rattle.packing.specs.Nodes.{nodeWord, childWrites, nodeWrites, rootWord, rootWords}
 use Rattle.packing.proofs.Turns.{children-end, children-on, root-none, root-at}
 
 -- the nodes of ts, each with its base
-pub record Based (ts : List Token) (m : List ℕ) : Type 0 where
+pub record Based (ts : List Token) (m : Nodes) : Type 0 where
   pub tree : Tree (nodes ts) (idOf ts) m
   pub base : (p : List ℕ) → Mem p (nodes ts) → see m (number (nodes ts) p) .tail ≡ baseOf (puts ts) p
 
@@ -71,7 +71,7 @@ next-number s q t f =
         go (inl e) r = f .0 (mem-right s (here (sym e)))
         go (inr n) r = r n
 
-module _ (ts : List Token) (m : List ℕ) (D : Based ts m) where
+module _ (ts : List Token) (m : Nodes) (D : Based ts m) where
   abbrev ps : List (List ℕ)
   ps = nodes ts
 
@@ -155,8 +155,9 @@ table-padded ts v n h =
 
 -- ---- the roots
 
-pub roots-over : (ts : List Token) (m rs : List ℕ) → Based ts m → Roots (nodes ts) rs → 65536 ≤ length rs
-    → map (rootWord (see m) (nodeCount ts)) (take 65536 rs) ++ drop 65536 rs ≡ over (rootList ts) rs
+pub roots-over : (ts : List Token) (m : Nodes) (rs : List ℕ) → Based ts m → Roots (nodes ts) rs → 65536 ≤ length rs
+    → rootWords (rootWord (see m) (nodeCount ts)) rs ≡ over (rootList ts) rs
+unfolding rootWords
 roots-over ts m rs D R h = ap₂ (λ (l : List ℕ) (k : ℕ). l ++ drop k rs)
     (ext-getD 0 (map f (take 65536 rs)) (rootList ts) (len1 ∙ sym len2) cell) (sym len2)
   where

@@ -7,4 +7,5 @@ pub mod Chosen
 pub mod Turns
 pub mod Filled
 pub mod Walked
+pub mod Calls
 pub mod Answered

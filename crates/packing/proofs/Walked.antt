@@ -18,7 +18,7 @@ use Rattle.laws.specs.Nodes.{ByteLabels, labels-small, order-find}
 use Rattle.laws.specs.Numbered.{number}
 use Rattle.laws.specs.Perm.{bit}
 use Rattle.laws.specs.Search.{marked}
-use Rattle.trie.specs.Run.{room, see}
+use Rattle.trie.specs.Run.{Nodes, room, see}
 use Rattle.trie.specs.Chains.{number-lt}
 use Rattle.trie.specs.Queue.{Queued, Ordered, queue-on, queue-step, queue-end, queue-short}
 use Rattle.packing.specs.Search.{Below, Bounds, openOn}
@@ -41,7 +41,7 @@ words-fold L (p ∷ ps) xs = let b = words-fold L ps (put L xs p) in omega arith
 
 -- ---- the end of the walk
 
-module _ (ps : List (List ℕ)) (I : List ℕ → ℕ) (goal : List Put) (m U B C : List ℕ) (node fuel : ℕ) (at : Front) (end : ℕ)
+module _ (ps : List (List ℕ)) (I : List ℕ → ℕ) (goal : List Put) (m : Nodes) (U B C : List ℕ) (node fuel : ℕ) (at : Front) (end : ℕ)
     (A : Amid ps I goal m U B C node fuel at end) where
   finished : A .ahead ≡ [] → Ended ps I goal m at end
   unfolding fold
@@ -109,7 +109,7 @@ module _ (ps : List (List ℕ)) (I : List ℕ → ℕ) (goal : List Put) (m U B 
     unfolding fold
     left-now = ap (fold (put (labels ps)) (A .xs)) (sym (N .split)) ∙ A .left
 
-    module _ (m' U' B' C' : List ℕ) (r : Placed) (at' : Front) (fit : node < room m) (em : m' ≡ keptOn m node r)
+    module _ (m' : Nodes) (U' B' C' : List ℕ) (r : Placed) (at' : Front) (fit : node < room m) (em : m' ≡ keptOn m node r)
         (ea : at' ≡ passedOn U' at end r) (bounds : Bounds U B (at .from) end) where
       placed-on : PlacedAt (labels ps) (A .xs) p end U' B' C' r → Below (end * 64) r
           → Amid ps I goal m' U' B' C' (see m node .tail) (fuel - 1) at' end
@@ -117,7 +117,7 @@ module _ (ps : List (List ℕ)) (I : List ℕ → ℕ) (goal : List Put) (m U B 
       placed-on P low = record {
         xs = put (labels ps) (A .xs) p;
         ahead = N .others;
-        queue = subst (λ (y : List ℕ). Queued ps I y (put (labels ps) (A .xs) p) (N .others) (see m node .tail))
+        queue = subst (λ (y : Nodes). Queued ps I y (put (labels ps) (A .xs) p) (N .others) (see m node .tail))
             (sym (em ∙ ap (keptOn m node) (P .answer)))
             (queue-step queue-now b fit);
         some = λ q mq. A .some q (subst (Mem q) (sym (N .split)) (there mq));
@@ -153,7 +153,7 @@ module _ (ps : List (List ℕ)) (I : List ℕ → ℕ) (goal : List Put) (m U B 
       })
 
 -- a walk goes on, unless the capacity is too small
-module _ {ps : List (List ℕ)} {I : List ℕ → ℕ} {goal : List Put} {m U B C : List ℕ} {node fuel : ℕ} {at : Front} {end : ℕ} where
+module _ {ps : List (List ℕ)} {I : List ℕ → ℕ} {goal : List Put} {m : Nodes} {U B C : List ℕ} {node fuel : ℕ} {at : Front} {end : ℕ} where
   pub full-ends : Amid ps I goal m U B C node fuel at end ⊎ Short goal at end → at .full ≡ true → Ended ps I goal m at end
   full-ends (inl A) e = absurd (clash e (A .not-full))
   full-ends (inr S) e = inr S
@@ -195,7 +195,7 @@ begin-going L small nu nb nc end h = record {
   cursors = λ l s a b c. let z = zeros-at nc l in absurd (omega arith);
 }
 
-begin-zeros : (ts : List Token) → Valid ts → (m : List ℕ) (first nu nb nc end : ℕ) → 4 ≤ end → Ordered ts m first
+begin-zeros : (ts : List Token) → Valid ts → (m : Nodes) (first nu nb nc end : ℕ) → 4 ≤ end → Ordered ts m first
     → Amid (nodes ts) (idOf ts) (puts ts) m (replicate nu 0) (replicate nb 0) (replicate nc 0) first (nodeCount ts)
     (record { from = 4; high = 0; full = false }) end
 unfolding puts place nodeCount
@@ -211,7 +211,7 @@ begin-zeros ts v m first nu nb nc end h Q = record {
 }
 
 -- the beginning, as the code has it
-pub begin : (ts : List Token) → Valid ts → {m U B C : List ℕ} {first made end : ℕ} (nu nb nc : ℕ) → 4 ≤ end → Ordered ts m first
+pub begin : (ts : List Token) → Valid ts → {m : Nodes} {U B C : List ℕ} {first made end : ℕ} (nu nb nc : ℕ) → 4 ≤ end → Ordered ts m first
     → U ≡ replicate nu 0 → B ≡ replicate nb 0 → C ≡ replicate nc 0 → made ≡ nodeCount ts
     → Amid (nodes ts) (idOf ts) (puts ts) m U B C first made (record { from = 4; high = 0; full = false }) end
 begin ts v {m} {U} {B} {C} {first} {made} {end} nu nb nc h Q eu eb ec em =
@@ -227,7 +227,7 @@ begin ts v {m} {U} {B} {C} {first} {made} {end} nu nb nc h Q eu eb ec em =
 
 -- ---- the end
 
-module _ {ps : List (List ℕ)} {I : List ℕ → ℕ} {goal : List Put} {m : List ℕ} {at : Front} {end : ℕ} where
+module _ {ps : List (List ℕ)} {I : List ℕ → ℕ} {goal : List Put} {m : Nodes} {at : Front} {end : ℕ} where
   pub ended-full : Ended ps I goal m at end → at .full ≡ true → end * 64 < words goal
   ended-full (inl T) e = absurd (clash e (T .not-full))
   ended-full (inr S) e = S .past
@@ -238,5 +238,5 @@ module _ {ps : List (List ℕ)} {I : List ℕ → ℕ} {goal : List Put} {m : Li
 
 -- every node has its base
 
-pub through-based : (ts : List Token) (m : List ℕ) (at : Front) (end : ℕ) → Through (nodes ts) (idOf ts) (puts ts) m at end → Based ts m
+pub through-based : (ts : List Token) (m : Nodes) (at : Front) (end : ℕ) → Through (nodes ts) (idOf ts) (puts ts) m at end → Based ts m
 through-based ts m at end T = record { tree = T .queue .tree; base = λ p mp. queue-end (T .queue) p mp }

@@ -1,12 +1,14 @@
 -- What the code does with the nodes of any memory: the base that is kept in a node, the words of its children, the words of the roots.
 -- Assumes nothing.
-use mathlib.Core.Bool.{true, false, cond}
-use mathlib.Core.List.{List, [], _∷_, _++_}
+use mathlib.Core.Bool.{Bool, true, false, cond}
+use mathlib.Core.List.{List, [], _∷_, _++_, map}
 use Prim.Native.Nat.{ℕ, zero, suc, _+_, _/_, max, min}
 use lib.Dec.{eqb, leb}
 use lib.Bits.{bitXor}
+use lib.ListN.{take, drop}
 use Rattle.spec.specs.Layout.{pack}
 use Rattle.laws.specs.Fill.{Write}
+use Rattle.trie.specs.Run.{Nodes}
 use Rattle.trie.specs.Tails.{setTail}
 use Rattle.trie.specs.declared.Node.{Node}
 use Rattle.packing.specs.Search.{openOn}
@@ -16,8 +18,17 @@ use Rattle.packing.specs.declared.Front.{Front}
 
 -- ---- placing
 
+-- whether no slot was found, and the base otherwise
+abbrev pub fullOf : Placed → Bool
+fullOf (At b) = false
+fullOf Full = true
+
+abbrev pub baseOf : Placed → ℕ
+baseOf (At b) = b
+baseOf Full = 0
+
 -- the base that a node was given, in its field tail
-abbrev pub keptOn : List ℕ → ℕ → Placed → List ℕ
+abbrev pub keptOn : Nodes → ℕ → Placed → Nodes
 keptOn m node (At b) = setTail m node b
 keptOn m node Full = m
 
@@ -57,3 +68,7 @@ module _ (M : ℕ → Node) (made : ℕ) where
   unfoldable pub rootWord : ℕ → ℕ
   unfolding nodeWord
   rootWord r = cond (eqb r 0) 0 (cond (leb made r) 0 (nodeWord (M r) 0))
+
+-- the first 65,536 roots become what f makes of them
+unfoldable pub rootWords : (ℕ → ℕ) → List ℕ → List ℕ
+rootWords f rs = map f (take 65536 rs) ++ drop 65536 rs

@@ -8,7 +8,7 @@ use lib.ListN.{length}
 use Rattle.spec.specs.Lists.{fold}
 use Rattle.spec.specs.Trie.{labels}
 use Rattle.spec.specs.Layout.{Put, top, words, put}
-use Rattle.trie.specs.Run.{see}
+use Rattle.trie.specs.Run.{Nodes, see}
 use Rattle.trie.specs.Queue.{Queued}
 use Rattle.packing.specs.Going.{Going}
 use Rattle.packing.specs.declared.Front.{Front}
@@ -16,7 +16,7 @@ use Rattle.packing.specs.declared.Front.{Front}
 -- ---- what holds on the way
 
 -- amid the walk: what is placed, and what is ahead from node on, lead to goal
-pub record Amid (ps : List (List ℕ)) (I : List ℕ → ℕ) (goal : List Put) (m U B C : List ℕ) (node fuel : ℕ) (at : Front)
+pub record Amid (ps : List (List ℕ)) (I : List ℕ → ℕ) (goal : List Put) (m : Nodes) (U B C : List ℕ) (node fuel : ℕ) (at : Front)
     (end : ℕ) : Type 0 where
   pub xs : List Put
   pub ahead : List (List ℕ)
@@ -28,7 +28,7 @@ pub record Amid (ps : List (List ℕ)) (I : List ℕ → ℕ) (goal : List Put) 
   pub not-full : at .full ≡ false
 
 -- at its end every node of goal has its base
-pub record Through (ps : List (List ℕ)) (I : List ℕ → ℕ) (goal : List Put) (m : List ℕ) (at : Front) (end : ℕ) : Type 0 where
+pub record Through (ps : List (List ℕ)) (I : List ℕ → ℕ) (goal : List Put) (m : Nodes) (at : Front) (end : ℕ) : Type 0 where
   pub not-full : at .full ≡ false
   pub queue : Queued ps I m goal [] 0
   pub high-is : at .high ≡ top goal
@@ -39,7 +39,7 @@ pub record Short (goal : List Put) (at : Front) (end : ℕ) : Type 0 where
   pub full : at .full ≡ true
   pub past : end * 64 < words goal
 
-abbrev pub Ended : List (List ℕ) → (List ℕ → ℕ) → List Put → List ℕ → Front → ℕ → Type 0
+abbrev pub Ended : List (List ℕ) → (List ℕ → ℕ) → List Put → Nodes → Front → ℕ → Type 0
 Ended ps I goal m at end = Through ps I goal m at end ⊎ Short goal at end
 
 -- the placing is within the capacity
@@ -50,13 +50,13 @@ pub record Within (at : Front) (end : ℕ) : Type 0 where
 -- ---- what the code promises
 
 -- the turn of a node: it is placed, and the next one follows; or the capacity is too small
-abbrev pub Turn : ℕ → ℕ → List ℕ → List ℕ → List ℕ → List ℕ → Front → ℕ → List ℕ → List ℕ → List ℕ → List ℕ → Front → Type 0
+abbrev pub Turn : ℕ → ℕ → Nodes → List ℕ → List ℕ → List ℕ → Front → ℕ → Nodes → List ℕ → List ℕ → List ℕ → Front → Type 0
 Turn made node m U B C at end m' U' B' C' r =
     (ps : List (List ℕ)) (I : List ℕ → ℕ) (goal : List Put) (fuel : ℕ) → made ≡ suc (length ps) → (node ≡ 0 → ⊥)
     → Amid ps I goal m U B C node fuel at end → Amid ps I goal m' U' B' C' (see m node .tail) (fuel - 1) r end ⊎ Short goal r end
 
 -- the walk from the first node on
-abbrev pub Walked : ℕ → ℕ → List ℕ → List ℕ → List ℕ → List ℕ → Front → ℕ → List ℕ → Front → Type 0
+abbrev pub Walked : ℕ → ℕ → Nodes → List ℕ → List ℕ → List ℕ → Front → ℕ → Nodes → Front → Type 0
 Walked made first m U B C at end m' r =
     (ps : List (List ℕ)) (I : List ℕ → ℕ) (goal : List Put) → made ≡ suc (length ps)
     → Amid ps I goal m U B C first made at end → Ended ps I goal m' r end

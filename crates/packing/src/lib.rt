@@ -2,23 +2,25 @@
 // Where roots and nodes stand for tokens, what is left in roots and table is the layout of these tokens.
 ghost use mathlib.Core.Path.{_≡_};
 ghost use mathlib.Core.List.{List, List·Memᴰ};
-ghost use Prim.Native.Nat.{ℕ, suc, _+_, _*_, _^_, _<_, _≤_, min, max};
-ghost use lib.ListN.{length, drop, replicate};
+ghost use Prim.Native.Nat.{ℕ, suc, _+_, _-_, _*_, _^_, _<_, _≤_, min, max};
+ghost use lib.ListN.{length, take, replicate};
 ghost use Rattle.spec.specs.Token.{Token, idOf};
 ghost use Rattle.spec.specs.Trie.{nodes as nodesOf, nodeCount, labels};
 ghost use Rattle.spec.specs.Layout.{Put, puts};
 ghost use Rattle.spec.specs.Valid.{Valid};
 ghost use Rattle.laws.specs.Numbered.{number};
 ghost use Rattle.trie.specs.Run.{room};
-ghost use Rattle.trie.specs.Stands.{Tree, Stands};
+ghost use Rattle.trie.specs.Stands.{Tree, Stands, RootsKept};
 ghost use Rattle.packing.specs.Search.{Bounds, Below};
 ghost use Rattle.packing.specs.Going.{Going, PlacedOr};
-ghost use Rattle.packing.specs.Nodes.{keptOn, passedOn, blocks};
+ghost use Rattle.packing.specs.Nodes.{fullOf, baseOf, keptOn, passedOn, blocks};
 ghost use Rattle.packing.specs.Walk.{Turn, Walked, Within, Ended};
 ghost use Rattle.packing.specs.Answer.{capacity, PackedAs};
 
 pub mod search;
 pub mod words;
+
+use trie::Node;
 
 fn wide(x: u8) -> usize
     ensures { λ r. ⌜ r ≡ x ⌝ }
@@ -30,6 +32,13 @@ fn count(x: u32) -> usize
     ensures { λ r. ⌜ r ≡ x ⌝ }
 {
     x as usize
+}
+
+fn one_less(x: u32) -> u32
+    requires { ⌜ 0 < x ⌝ }
+    ensures { λ r. ⌜ r ≡ x - 1 ⌝ }
+{
+    x - 1
 }
 
 fn narrow(x: usize) -> u32
@@ -97,61 +106,100 @@ fn passed(used: &[u64], at: Front, end: usize, p: Placed) -> Front
     }
 }
 
+fn is_full(p: Placed) -> bool
+    ensures { λ r. ⌜ r ≡ fullOf p ⌝ }
+{
+    match p {
+        Placed::At(_) => false,
+        Placed::Full => true,
+    }
+}
+
+fn base_of(p: Placed) -> usize
+    ensures { λ r. ⌜ r ≡ baseOf p ⌝ }
+{
+    match p {
+        Placed::At(base) => base,
+        Placed::Full => 0,
+    }
+}
+
 // A node's base goes into its field tail, in place of the link to the next node in order.
-fn keep(nodes: &mut [u32], node: u32, p: Placed)
+fn keep(nodes: &mut [Node], node: u32, p: Placed)
     requires { ⌜ (node < room (now nodes)) × Below (2 ^ 32) p ⌝ }
     ensures { λ r. ⌜ now (nodes .exit) ≡ keptOn (now (nodes .entry)) node p ⌝ }
 {
-    let Placed::At(base) = p else {
+    if is_full(p) {
         return;
-    };
-    trie::set_tail(nodes, node, narrow(base));
+    }
+    trie::set_tail(nodes, node, narrow(base_of(p)));
 }
 
-// The base of a node, by its labels. A node without labels needs none.
+// The base of a node whose n labels stand at the start of `labels`. A node without labels needs none.
+fn place_some(
+    used: &mut [u64],
+    bases: &mut [u64],
+    cursors: &mut [u32],
+    labels: &[u8],
+    n: usize,
+    from: usize,
+    end: usize,
+) -> Placed
+    requires { ⌜ Bounds (now used) (now bases) from end × (256 ≤ length (now cursors)) × (n ≤ length (now labels)) ⌝ }
+    ensures stands { λ r. ⌜ ((L : List ℕ → List ℕ) (xs : List Put) (p : List ℕ) (high : ℕ) → take n (now (labels .entry)) ≡ L p → 1 ≤ n
+        → Going L xs (now (used .entry)) (now (bases .entry)) (now (cursors .entry)) from high end
+        → PlacedOr L xs p end (now (used .exit)) (now (bases .exit)) (now (cursors .exit)) r) ⌝ }
+    ensures small { λ r. ⌜ Below (end * 64) r ⌝ }
+{
+    if n == 0 {
+        return Placed::At(0);
+    }
+    search::place_labels(used, bases, cursors, from, end, &labels[..n])
+}
+
+// The base of a node, by its labels, which go into the cells lent.
 fn place_gathered(
-    nodes: &[u32],
+    nodes: &[Node],
     made: u32,
     node: u32,
     used: &mut [u64],
     bases: &mut [u64],
     cursors: &mut [u32],
+    cells: &mut [u8],
     from: usize,
     end: usize,
 ) -> Placed
-    requires { ⌜ (node < made) × (made ≤ room (now nodes)) × Bounds (now used) (now bases) from end × (256 ≤ length (now cursors)) ⌝ }
+    requires { ⌜ (node < made) × (made ≤ room (now nodes)) × Bounds (now used) (now bases) from end × (256 ≤ length (now cursors))
+        × (256 ≤ length (now cells)) ⌝ }
     ensures stands { λ r. ⌜ ((ps : List (List ℕ)) (I : List ℕ → ℕ) (xs : List Put) (p : List ℕ) (high : ℕ) → Tree ps I (now (nodes .entry))
         → made ≡ suc (length ps) → List·Memᴰ p ps → node ≡ number ps p → 1 ≤ length (labels ps p)
         → Going (labels ps) xs (now (used .entry)) (now (bases .entry)) (now (cursors .entry)) from high end
         → PlacedOr (labels ps) xs p end (now (used .exit)) (now (bases .exit)) (now (cursors .exit)) r) ⌝ }
     ensures small { λ r. ⌜ Below (end * 64) r ⌝ }
 {
-    let mut room = [0u8; 256];
-    let n = trie::gather(nodes, made, node, &mut room);
-    if n == 0 {
-        return Placed::At(0);
-    }
-    search::place_labels(used, bases, cursors, from, end, &room[..n])
+    let n = trie::gather(nodes, made, node, cells);
+    place_some(used, bases, cursors, cells, n, from, end)
 }
 
 // Places the node whose turn it is.
 fn place_node(
-    nodes: &mut [u32],
+    nodes: &mut [Node],
     made: u32,
     node: u32,
     used: &mut [u64],
     bases: &mut [u64],
     cursors: &mut [u32],
+    cells: &mut [u8],
     at: Front,
     end: usize,
 ) -> Front
     requires { ⌜ (node < made) × (made ≤ room (now nodes)) × Bounds (now used) (now bases) (at .from) end
-        × (256 ≤ length (now cursors)) × (at .high * 4 + 4 ≤ end) ⌝ }
+        × (256 ≤ length (now cursors)) × (256 ≤ length (now cells)) × (at .high * 4 + 4 ≤ end) ⌝ }
     ensures stands { λ r. ⌜ Turn made node (now (nodes .entry)) (now (used .entry)) (now (bases .entry)) (now (cursors .entry)) at end
         (now (nodes .exit)) (now (used .exit)) (now (bases .exit)) (now (cursors .exit)) r ⌝ }
     ensures within { λ r. ⌜ Within r end ⌝ }
 {
-    let p = place_gathered(nodes, made, node, used, bases, cursors, at.from, end);
+    let p = place_gathered(nodes, made, node, used, bases, cursors, cells, at.from, end);
     keep(nodes, node, p);
     passed(used, at, end, p)
 }
@@ -160,17 +208,18 @@ fn place_node(
 
 // Places the nodes of a chain through the field tail, one after the other.
 fn place_chain(
-    nodes: &mut [u32],
+    nodes: &mut [Node],
     made: u32,
     first: u32,
     used: &mut [u64],
     bases: &mut [u64],
     cursors: &mut [u32],
+    cells: &mut [u8],
     at: Front,
     end: usize,
 ) -> Front
     requires { ⌜ (made ≤ room (now nodes)) × Bounds (now used) (now bases) (at .from) end
-        × (256 ≤ length (now cursors)) × (at .high * 4 + 4 ≤ end) ⌝ }
+        × (256 ≤ length (now cursors)) × (256 ≤ length (now cells)) × (at .high * 4 + 4 ≤ end) ⌝ }
     ensures stands { λ r. ⌜ Walked made first (now (nodes .entry)) (now (used .entry)) (now (bases .entry)) (now (cursors .entry)) at end
         (now (nodes .exit)) r ⌝ }
     ensures within { λ r. ⌜ Within r end ⌝ }
@@ -185,19 +234,25 @@ fn place_chain(
         if made <= node {
             return front;
         }
-        let next = trie::fetch(nodes, node).tail;
-        front = place_node(nodes, made, node, used, bases, cursors, front, end);
+        let n = trie::fetch(nodes, node);
+        front = place_node(nodes, made, node, used, bases, cursors, cells, front, end);
         if front.full {
             return front;
         }
-        node = next;
-        fuel -= 1;
+        node = n.tail;
+        fuel = one_less(fuel);
     }
     front
 }
 
 // Places every node with children, by falling child count, then rising number.
-fn place_all(nodes: &mut [u32], made: u32, used: &mut [u64], bases: &mut [u64], end: usize) -> Front
+fn place_all(
+    nodes: &mut [Node],
+    made: u32,
+    used: &mut [u64],
+    bases: &mut [u64],
+    end: usize,
+) -> Front
     requires { ⌜ (1 ≤ made) × (made ≤ room (now nodes)) × Bounds (now used) (now bases) 4 end ⌝ }
     ensures stands { λ r. ⌜ ((ts : List Token) (rs : List ℕ) → Valid ts → Stands ts rs (now (nodes .entry)) → made ≡ nodeCount ts
         → Ended (nodesOf ts) (idOf ts) (puts ts) (now (nodes .exit)) r end) ⌝ }
@@ -205,14 +260,27 @@ fn place_all(nodes: &mut [u32], made: u32, used: &mut [u64], bases: &mut [u64], 
 {
     clear(used);
     clear(bases);
-    let first = trie::thread_all(nodes, made);
+    let mut firsts = [0u32; 257];
+    let mut lasts = [0u32; 257];
+    let first = trie::thread_all(nodes, made, &mut firsts, &mut lasts);
     let mut cursors = [0u32; 256];
+    let mut cells = [0u8; 256];
     let at = Front {
         from: 4,
         high: 0,
         full: false,
     };
-    place_chain(nodes, made, first, used, bases, &mut cursors, at, end)
+    place_chain(
+        nodes,
+        made,
+        first,
+        used,
+        bases,
+        &mut cursors,
+        &mut cells,
+        at,
+        end,
+    )
 }
 
 // ---- the whole
@@ -233,10 +301,24 @@ pub enum Packed {
     NoRoom,
 }
 
+fn no_room() -> Packed
+    ensures { λ r. ⌜ r ≡ Packed.NoRoom ⌝ }
+{
+    Packed::NoRoom
+}
+
+// The words of a layout whose highest block this is.
+fn words_to(high: usize) -> Packed
+    requires { ⌜ high < 16777215 ⌝ }
+    ensures { λ r. ⌜ r ≡ Packed.Words (256 * (1 + high)) ⌝ }
+{
+    Packed::Words(narrow(256 * (1 + high)))
+}
+
 // Packs the trie that roots and nodes stand for: the node numbers in the roots become words, and the table gets the layout's words with
 // zeros after them. Nodes and marks are work memory; the marks may hold anything before. With no room, roots and table hold anything.
 pub fn pack(
-    nodes: &mut [u32],
+    nodes: &mut [Node],
     made: u32,
     roots: &mut [u64],
     table: &mut [u64],
@@ -247,16 +329,16 @@ pub fn pack(
     ensures stands { λ r. ⌜ ((ts : List Token) → Valid ts → Stands ts (now (roots .entry)) (now (nodes .entry)) → made ≡ nodeCount ts
         → PackedAs ts (capacity (length (now (table .entry))) (length (now (used .entry))) (length (now («used_bases» .entry))))
         (now (roots .entry)) (now (table .entry)) r (now (roots .exit)) (now (table .exit))) ⌝ }
-    ensures kept { λ r. ⌜ drop 65536 (now (roots .exit)) ≡ drop 65536 (now (roots .entry)) ⌝ }
+    ensures kept { λ r. ⌜ RootsKept (now (roots .entry)) (now (roots .exit)) ⌝ }
 {
     let end = words_of_marks(table.len(), used.len(), used_bases.len());
     if end == 0 {
-        return Packed::NoRoom;
+        return no_room();
     }
     let front = place_all(nodes, made, used, used_bases, end);
     if front.full {
-        return Packed::NoRoom;
+        return no_room();
     }
     words::put_all(table, roots, nodes, made);
-    Packed::Words(narrow(256 * (1 + front.high)))
+    words_to(front.high)
 }

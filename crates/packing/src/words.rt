@@ -1,32 +1,35 @@
 // The words of the table and of the roots, once each node's base stands in its field tail.
 ghost use mathlib.Core.Path.{_≡_};
-ghost use mathlib.Core.List.{_++_, map};
-ghost use Prim.Native.Nat.{_-_, _≤_};
-ghost use lib.ListN.{length, set, take, drop, replicate};
+ghost use Prim.Native.Nat.{_+_, _-_, _^_, _≤_, _<_};
+ghost use lib.Dec.{ltb};
+ghost use lib.Bits.{bitXor};
+ghost use lib.ListN.{length, getD, set, replicate};
 ghost use Rattle.spec.specs.Lists.{fold};
 ghost use Rattle.spec.specs.Layout.{pack};
 ghost use Rattle.laws.specs.Fill.{write};
 ghost use Rattle.trie.specs.Run.{room, see};
-ghost use Rattle.packing.specs.Nodes.{nodeWord, childWrites, nodeWrites, rootWord};
+ghost use Rattle.packing.specs.Nodes.{nodeWord, childWrites, nodeWrites, rootWord, rootWords};
 use crate::clear;
 use crate::count;
+use crate::one_less;
 use crate::wide;
+use trie::Node;
 
 // Base, id and incoming byte as one word.
-fn pack_word(base: u32, term: u16, label: u8) -> u64
+pub fn pack_word(base: u32, term: u16, label: u8) -> u64
     ensures { λ r. ⌜ r ≡ pack base term label ⌝ }
 {
     (base as u64) << 32 | ((term as u64) << 8 | label as u64)
 }
 
 // The word of a node, with the byte that leads to it.
-fn word_of(n: trie::Node, label: u8) -> u64
+pub fn word_of(n: Node, label: u8) -> u64
     ensures { λ r. ⌜ r ≡ nodeWord n label ⌝ }
 {
     pack_word(n.tail, n.term, label)
 }
 
-fn put_word(table: &mut [u64], slot: usize, word: u64)
+pub fn put_word(table: &mut [u64], slot: usize, word: u64)
     ensures { λ r. ⌜ now (table .exit) ≡ set (now (table .entry)) slot word ⌝ }
 {
     if slot < table.len() {
@@ -34,8 +37,15 @@ fn put_word(table: &mut [u64], slot: usize, word: u64)
     }
 }
 
+// The word of a child, at base XOR label.
+pub fn put_child(table: &mut [u64], base: usize, n: Node)
+    ensures { λ r. ⌜ now (table .exit) ≡ set (now (table .entry)) (bitXor base (n .label)) (nodeWord n (n .label)) ⌝ }
+{
+    put_word(table, base ^ wide(n.label), word_of(n, n.label));
+}
+
 // The words of the children of a node with this base, each at base XOR label; head is the first child.
-fn put_children(table: &mut [u64], nodes: &[u32], made: u32, base: usize, head: u32)
+pub fn put_children(table: &mut [u64], nodes: &[Node], made: u32, base: usize, head: u32)
     requires { ⌜ made ≤ room (now nodes) ⌝ }
     ensures { λ r. ⌜ now (table .exit)
         ≡ fold write (now (table .entry)) (childWrites (see (now (nodes .entry))) made base 256 head) ⌝ }
@@ -50,14 +60,22 @@ fn put_children(table: &mut [u64], nodes: &[u32], made: u32, base: usize, head: 
             return;
         }
         let n = trie::fetch(nodes, c);
-        put_word(table, base ^ wide(n.label), word_of(n, n.label));
+        put_child(table, base, n);
         c = n.next;
-        fuel -= 1;
+        fuel = one_less(fuel);
     }
 }
 
+// The number after i, of those below n.
+pub fn after(i: u32, n: u32) -> u32
+    requires { ⌜ i < n ⌝ }
+    ensures { λ r. ⌜ r ≡ i + 1 ⌝ }
+{
+    i + 1
+}
+
 // The words of all children.
-fn put_words(table: &mut [u64], nodes: &[u32], made: u32)
+pub fn put_words(table: &mut [u64], nodes: &[Node], made: u32)
     requires { ⌜ (1 ≤ made) × (made ≤ room (now nodes)) ⌝ }
     ensures { λ r. ⌜ now (table .exit)
         ≡ fold write (now (table .entry)) (nodeWrites (see (now (nodes .entry))) made (made - 1) 1) ⌝ }
@@ -66,44 +84,86 @@ fn put_words(table: &mut [u64], nodes: &[u32], made: u32)
     while i < made {
         let n = trie::fetch(nodes, i);
         put_children(table, nodes, made, count(n.tail), n.head);
-        i += 1;
+        i = after(i, made);
     }
 }
 
+pub fn number(x: u32) -> u64
+    ensures { λ r. ⌜ r ≡ x ⌝ }
+{
+    x as u64
+}
+
+pub fn number_of(root: u64) -> u32
+    requires { ⌜ root < 2 ^ 32 ⌝ }
+    ensures { λ r. ⌜ r ≡ root ⌝ }
+{
+    root as u32
+}
+
+pub fn word_at(words: &[u64], i: usize) -> u64
+    requires { ⌜ i < length (now words) ⌝ }
+    ensures { λ r. ⌜ r ≡ getD (now (words .entry)) i 0 ⌝ }
+{
+    words[i]
+}
+
+// Whether i is the place of a root.
+pub fn is_root(i: usize) -> bool
+    ensures { λ r. ⌜ r ≡ ltb i 65536 ⌝ }
+{
+    i < 65536
+}
+
+pub fn next_root(i: usize) -> usize
+    requires { ⌜ i < 65536 ⌝ }
+    ensures { λ r. ⌜ r ≡ i + 1 ⌝ }
+{
+    i + 1
+}
+
+// The word of a node as a root: no byte leads to it.
+pub fn root_word_of(n: Node) -> u64
+    ensures { λ r. ⌜ r ≡ nodeWord n 0 ⌝ }
+{
+    word_of(n, 0)
+}
+
 // The word of a root that holds a node's number; 0 if it holds none.
-fn root_word(nodes: &[u32], made: u32, root: u64) -> u64
+pub fn root_word(nodes: &[Node], made: u32, root: u64) -> u64
     requires { ⌜ made ≤ room (now nodes) ⌝ }
     ensures { λ r. ⌜ r ≡ rootWord (see (now (nodes .entry))) made root ⌝ }
 {
     if root == 0 {
         return 0;
     }
-    if made as u64 <= root {
+    if number(made) <= root {
         return 0;
     }
-    word_of(trie::fetch(nodes, root as u32), 0)
+    root_word_of(trie::fetch(nodes, number_of(root)))
 }
 
 // Each of the 65,536 roots becomes the word of its node.
-fn put_roots(roots: &mut [u64], nodes: &[u32], made: u32)
+pub fn put_roots(roots: &mut [u64], nodes: &[Node], made: u32)
     requires { ⌜ (65536 ≤ length (now roots)) × (made ≤ room (now nodes)) ⌝ }
     ensures { λ r. ⌜ now (roots .exit)
-        ≡ map (rootWord (see (now (nodes .entry))) made) (take 65536 (now (roots .entry))) ++ drop 65536 (now (roots .entry)) ⌝ }
+        ≡ rootWords (rootWord (see (now (nodes .entry))) made) (now (roots .entry)) ⌝ }
 {
     let mut i: usize = 0;
-    while i < 65536 {
-        roots[i] = root_word(nodes, made, roots[i]);
-        i += 1;
+    while is_root(i) {
+        let word = root_word(nodes, made, word_at(roots, i));
+        put_word(roots, i, word);
+        i = next_root(i);
     }
 }
 
 // The words of all nodes, in the table, with zeros elsewhere, and in the roots.
-pub fn put_all(table: &mut [u64], roots: &mut [u64], nodes: &[u32], made: u32)
+pub fn put_all(table: &mut [u64], roots: &mut [u64], nodes: &[Node], made: u32)
     requires { ⌜ (1 ≤ made) × (made ≤ room (now nodes)) × (65536 ≤ length (now roots)) ⌝ }
     ensures table { λ r. ⌜ now (table .exit)
         ≡ fold write (replicate (length (now (table .entry))) 0) (nodeWrites (see (now (nodes .entry))) made (made - 1) 1) ⌝ }
     ensures roots { λ r. ⌜ now (roots .exit)
-        ≡ map (rootWord (see (now (nodes .entry))) made) (take 65536 (now (roots .entry))) ++ drop 65536 (now (roots .entry)) ⌝ }
+        ≡ rootWords (rootWord (see (now (nodes .entry))) made) (now (roots .entry)) ⌝ }
 {
     clear(table);
     put_words(table, nodes, made);

@@ -12,7 +12,12 @@ use cases::write;
 use cases::write_number;
 use libc::STDIN_FILENO;
 use line::NextLine;
+use trie::Node;
 ghost use Prim.Native.Nat.{_≤_, _<_};
+ghost use lib.ListN.{length};
+ghost use Rattle.spec.specs.Memory.{memory};
+ghost use Rattle.spec.specs.Load.{tableRoom};
+ghost use Rattle.rwkv_tokenizer.specs.Report.{LoadReported};
 
 fn least(a: usize, b: usize) -> usize
     ensures { λ r. ⌜ (r ≤ a) × (r ≤ b) ⌝ }
@@ -58,6 +63,51 @@ fn write_report(number: u32, count: u64, place: u64, value: u64) {
     write_next(value);
 }
 
+// A load into memory for so many nodes.
+fn load_in(
+    text: &[u8],
+    partial: bool,
+    single: &mut [i32],
+    offsets: &mut [u32],
+    blob: &mut [u8],
+    roots: &mut [u64],
+    table: &mut [u64],
+    room: usize,
+    used: &mut [u64],
+    used_bases: &mut [u64],
+    report: &mut [u64; 6],
+) -> u32
+    requires { ⌜ room ≤ 4096 ⌝ }
+    ensures { λ r. ⌜ LoadReported partial room
+        (tableRoom (length (now (table .entry))) (length (now (used .entry))) (length (now («used_bases» .entry))))
+        (memory (now (single .entry)) (now (offsets .entry)) (now (blob .entry)) (now (roots .entry)) (now (table .entry)))
+        (now (text .entry)) r (now (report .exit))
+        (memory (now (single .exit)) (now (offsets .exit)) (now (blob .exit)) (now (roots .exit)) (now (table .exit))) ⌝ }
+{
+    let node = Node {
+        head: 0,
+        tail: 0,
+        next: 0,
+        term: 0,
+        count: 0,
+        label: 0,
+    };
+    let mut nodes = [node; 4096];
+    rwkv_tokenizer::rwkv_load(
+        text,
+        partial,
+        single,
+        offsets,
+        blob,
+        roots,
+        table,
+        &mut nodes[..room],
+        used,
+        used_bases,
+        report,
+    )
+}
+
 // A load with so many nodes, and blocks of the marks.
 fn load(
     text: &[u8],
@@ -73,10 +123,9 @@ fn load(
 ) -> u32
     requires { ⌜ (room ≤ 4096) × (blocks ≤ 16) ⌝ }
 {
-    let mut nodes = [0u32; 24576];
     let mut used = [0u64; 64];
     let mut used_bases = [0u64; 64];
-    rwkv_tokenizer::rwkv_load(
+    load_in(
         text,
         partial,
         single,
@@ -84,7 +133,7 @@ fn load(
         blob,
         roots,
         table,
-        &mut nodes[..6 * room],
+        room,
         &mut used[..4 * blocks],
         &mut used_bases[..4 * blocks],
         report,

@@ -1,11 +1,11 @@
 // Loading a vocabulary.
 ghost use mathlib.Core.Path.{_≡_};
-ghost use Prim.Native.Nat.{_/_};
 ghost use lib.ListN.{length};
 ghost use Rattle.spec.specs.Memory.{memory};
 ghost use Rattle.spec.specs.Load.{tableRoom};
 ghost use Rattle.vocabulary.specs.Answers.{placeOf, answerOf, WorkKept};
 ghost use Rattle.rwkv_tokenizer.specs.Report.{placeKind, placeValue, loadReport, LoadReported};
+use trie::Node;
 use vocabulary::Load;
 use vocabulary::Place;
 
@@ -67,9 +67,20 @@ fn numbered(load: Load) -> Answer
     }
 }
 
+// The number of a load's answer, with its values in the report.
+fn report_to(load: Load, report: &mut [u64; 6]) -> u32
+    ensures number { λ r. ⌜ r ≡ answerOf load .number ⌝ }
+    ensures values { λ r. ⌜ now (report .exit) ≡ loadReport (answerOf load) ⌝ }
+{
+    let answer = numbered(load);
+    let cells = answer.cells;
+    *report = cells;
+    answer.number
+}
+
 // A vocabulary text into the memory, in partial or full mode. The report: the kind of the refusal's place (0 none, 1 line, 2 offset,
-// 3 byte) and the place, or the counts of tokens, nodes, blob bytes and table words. `nodes` has six numbers to a node; what it and the
-// runs of marks hold afterwards is anything, but after 1 and 2 what they held.
+// 3 byte) and the place, or the counts of tokens, nodes, blob bytes and table words. What `nodes` and the runs of marks hold
+// afterwards is anything, but after 1 and 2 what they held.
 #[no_mangle]
 pub extern "C" fn rwkv_load(
     text: &[u8],
@@ -79,12 +90,12 @@ pub extern "C" fn rwkv_load(
     blob: &mut [u8],
     roots: &mut [u64],
     table: &mut [u64],
-    nodes: &mut [u32],
+    nodes: &mut [Node],
     used: &mut [u64],
     used_bases: &mut [u64],
     report: &mut [u64; 6],
 ) -> u32
-    ensures loads { λ r. ⌜ LoadReported partial (length (now (nodes .entry)) / 6)
+    ensures loads { λ r. ⌜ LoadReported partial (length (now (nodes .entry)))
         (tableRoom (length (now (table .entry))) (length (now (used .entry))) (length (now («used_bases» .entry))))
         (memory (now (single .entry)) (now (offsets .entry)) (now (blob .entry)) (now (roots .entry)) (now (table .entry)))
         (now (text .entry)) r (now (report .exit))
@@ -104,8 +115,5 @@ pub extern "C" fn rwkv_load(
         used,
         used_bases,
     );
-    let answer = numbered(load);
-    let cells = answer.cells;
-    *report = cells;
-    answer.number
+    report_to(load, report)
 }

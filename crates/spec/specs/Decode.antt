@@ -38,10 +38,12 @@ unfoldable pub decodeAt : Memory → ℕ → ℕ → List ℕ → Decoding
 unfolding lookup
 decodeAt m n index [] = record { bytes = []; end = complete }
 decodeAt m n index (i ∷ ids) = elim (lookup m i) [
-    [] ↦ record { bytes = []; end = absent index i }
+  | [] ↦ record { bytes = []; end = absent index i }
   | b ∷ bs ↦ elim (leb (length (b ∷ bs)) n) [
-        true ↦ decoded (b ∷ bs) (decodeAt m (n - length (b ∷ bs)) (suc index) ids)
-      | false ↦ record { bytes = []; end = full index } ] ]
+    | true ↦ decoded (b ∷ bs) (decodeAt m (n - length (b ∷ bs)) (suc index) ids)
+    | false ↦ record { bytes = []; end = full index }
+  ]
+]
 
 unfoldable pub decoding : Memory → ℕ → List ℕ → Decoding
 unfolding decodeAt
@@ -82,8 +84,9 @@ unfoldable pub firstAbsent : Memory → ℕ → List ℕ → Option Answer
 unfolding lookup
 firstAbsent m index [] = none
 firstAbsent m index (i ∷ ids) = elim (lookup m i) [
-    [] ↦ some (record { number = 27; count = 0; place = index; value = i })
-  | b ∷ bs ↦ firstAbsent m (suc index) ids ]
+  | [] ↦ some (record { number = 27; count = 0; place = index; value = i })
+  | b ∷ bs ↦ firstAbsent m (suc index) ids
+]
 
 -- "Lossy checks every id for 27 first, then gives 28, index being the number of ids, if its text doesn't fit; both leave its
 -- output untouched."
@@ -93,8 +96,9 @@ lossyOutput m n ids (some refusal) = record { answer = refusal; cells = [] }
 lossyOutput m n ids none =
     let text = lossy (each (lookup m) ids) in
     elim (leb (length text) n) [
-      true ↦ record { answer = whole (length text); cells = text }
-    | false ↦ record { answer = record { number = 28; count = 0; place = length ids; value = 0 }; cells = [] } ]
+      | true ↦ record { answer = whole (length text); cells = text }
+      | false ↦ record { answer = record { number = 28; count = 0; place = length ids; value = 0 }; cells = [] }
+    ]
 
 -- `decode_lossy`
 unfoldable pub decodeLossyOn : Memory → ℕ → List ℕ → Output

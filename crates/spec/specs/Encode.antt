@@ -27,10 +27,12 @@ unfolding matchOn
 encodeAt m n pos k [] = record { ids = []; end = complete }
 encodeAt m n pos (suc k) (b ∷ s) = encodeAt m n (suc pos) k s
 encodeAt m n pos zero (b ∷ s) = elim (matchOn m (b ∷ s)) [
-    nothing ↦ record { ids = []; end = unmatched pos b }
+  | nothing ↦ record { ids = []; end = unmatched pos b }
   | found i len ↦ elim n [
-        zero ↦ record { ids = []; end = full pos }
-      | suc n ↦ encoded i (encodeAt m n (suc pos) (pred len) s) ] ]
+    | zero ↦ record { ids = []; end = full pos }
+    | suc n ↦ encoded i (encodeAt m n (suc pos) (pred len) s)
+  ]
+]
 
 -- the encoding of src into an output of n cells
 unfoldable pub encoding : Memory → ℕ → List ℕ → Encoding
@@ -54,5 +56,6 @@ refused n = record { answer = bare n; cells = [] }
 unfoldable pub encodeOn : Memory → ℕ → List ℕ → Output
 unfolding tooShort encoding
 encodeOn m n src = elim (tooShort m) [
-    true ↦ refused 1
-  | false ↦ let e = encoding m n src in record { answer = encodeAnswer (length (e .ids)) (e .end); cells = e .ids } ]
+  | true ↦ refused 1
+  | false ↦ let e = encoding m n src in record { answer = encodeAnswer (length (e .ids)) (e .end); cells = e .ids }
+]

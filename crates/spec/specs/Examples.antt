@@ -22,8 +22,23 @@ use Rattle.spec.specs.Memory.{Memory, padded, memoryOf, singleList, offs
 use Rattle.spec.specs.Encode.{complete, unmatched, encoding}
 use Rattle.spec.specs.Decode.{decoding}
 use Rattle.spec.specs.Decode as decode
-use Rattle.spec.specs.Load.{Room, accepted, load, takeLines, takeLine, readLine, readFields, idRule, readToken, lengthRule, admit,
-    lastId, finish, missing, countsOf}
+use Rattle.spec.specs.Load.{
+  Room,
+  accepted,
+  load,
+  takeLines,
+  takeLine,
+  readLine,
+  readFields,
+  idRule,
+  readToken,
+  lengthRule,
+  admit,
+  lastId,
+  finish,
+  missing,
+  countsOf,
+}
 use Rattle.spec.specs.Answer.{whole}
 use Rattle.spec.specs.Stream.{openPhase, endedPhase, holding, stoppedAt, fresh, add, end, goesThrough}
 
@@ -70,8 +85,14 @@ leaves : (ts : List Token) (blob table : List ℕ) → length blob ≡ length (b
     ≡ record { single = singleList ts; offsets = offsetList ts; blob = blobBytes ts; roots = rootList ts; table = tableList ts }
 unfolding memoryOf
 leaves ts blob table b t =
-    cc (over-nothing (singleList ts), over-nothing (offsetList ts), over-nothing (rootList ts), padded-full (blobBytes ts) (length blob)
-        b, padded-full (tableList ts) (length table) t)
+    cc (
+      over-nothing (singleList ts),
+      over-nothing (offsetList ts),
+      over-nothing (rootList ts),
+      padded-full (blobBytes ts) (length blob)
+          b,
+      padded-full (tableList ts) (length table) t,
+    )
 
 v-leaves : memoryOf vv (record { single = []; offsets = []; blob = replicate 10 0; roots = []; table = replicate 512 0 }) ≡ vMemory
 unfolding blobBytes tableList

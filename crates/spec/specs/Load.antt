@@ -111,15 +111,17 @@ demanded false b = b
 unfoldable pub finish : Bool → Room → List Token → Outcome
 finish partial room [] = refused 19 nowhere
 finish partial room (t ∷ ts) = elim (demanded partial (missing (t ∷ ts) 256 0)) [
-    some b ↦ refused 20 (byte b)
-  | none ↦ cond (leb (tableWords (t ∷ ts)) (room .table)) (accepted (t ∷ ts)) (refused 21 nowhere) ]
+  | some b ↦ refused 20 (byte b)
+  | none ↦ cond (leb (tableWords (t ∷ ts)) (room .table)) (accepted (t ∷ ts)) (refused 21 nowhere)
+]
 
 -- "lines are taken one by one, counted from 1": ls from line n on, after the tokens ts
 unfoldable pub takeLines : Bool → Room → ℕ → List Token → List (List ℕ) → Outcome
 takeLines partial room n ts [] = finish partial room ts
 takeLines partial room n ts (l ∷ ls) = elim (takeLine room ts l) [
-    pass more ↦ takeLines partial room (suc n) more ls
-  | refuse number ↦ refused number (line n) ]
+  | pass more ↦ takeLines partial room (suc n) more ls
+  | refuse number ↦ refused number (line n)
+]
 
 -- What a UTF-8 text states, in partial or full mode.
 unfoldable pub load : Bool → Room → List ℕ → Outcome
@@ -162,10 +164,12 @@ settled m (refused number place) = turnedDown number place (emptied m)
 -- Number 2's offset k is loose: see `LoadsTo`.
 unfoldable pub loadOn : ℕ → Bool → ℕ → ℕ → Memory → List ℕ → LoadResult
 loadOn k partial nodes table m text = elim (tooShort m) [
-    true ↦ turnedDown 1 nowhere m
+  | true ↦ turnedDown 1 nowhere m
   | false ↦ elim (wellFormed text) [
-        false ↦ turnedDown 2 (offset k) m
-      | true ↦ settled m (load partial (record { nodes = nodes; blob = length (m .blob); table = table }) text) ] ]
+    | false ↦ turnedDown 2 (offset k) m
+    | true ↦ settled m (load partial (record { nodes = nodes; blob = length (m .blob); table = table }) text)
+  ]
+]
 
 -- The result of a load: "Number 2's offset may be any offset where an ill-formed sequence starts." Nothing else is loose.
 pub record LoadsTo (partial : Bool) (nodes table : ℕ) (m : Memory) (text : List ℕ) (r : LoadResult) : Type 0 where

@@ -22,7 +22,12 @@ only n at v = upFrom (λ i. cond (eqb i at) v 0) n 0
 -- memory with one root word, at 61 61 hex, and one table word
 abbrev with-words : ℕ → ℕ → ℕ → Memory
 with-words root at word = record {
-  single = replicate 256 (negsuc 0); offsets = replicate 65537 0; blob = []; roots = only 65536 0x6161 root; table = only 512 at word }
+  single = replicate 256 (negsuc 0);
+  offsets = replicate 65537 0;
+  blob = [];
+  roots = only 65536 0x6161 root;
+  table = only 512 at word;
+}
 
 abbrev a : ℕ
 a = 0x61

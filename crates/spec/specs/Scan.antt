@@ -30,8 +30,9 @@ unfolding longest
 scanAt ts pos k [] = record { ids = []; end = done }
 scanAt ts pos (suc k) (b ∷ s) = scanAt ts (suc pos) k s
 scanAt ts pos zero (b ∷ s) = elim (longest ts (b ∷ s)) [
-    none ↦ record { ids = []; end = failed pos b }
-  | some t ↦ scanned (t .id) (scanAt ts (suc pos) (pred (length (t .bytes))) s) ]
+  | none ↦ record { ids = []; end = failed pos b }
+  | some t ↦ scanned (t .id) (scanAt ts (suc pos) (pred (length (t .bytes))) s)
+]
 
 abbrev pub scan : List Token → List ℕ → Scan
 scan ts s = scanAt ts 0 0 s
@@ -56,10 +57,12 @@ unfolding longest undecided
 runAt ts pos k [] = record { ids = []; stop = waiting pos [] }
 runAt ts pos (suc k) (b ∷ s) = runAt ts (suc pos) k s
 runAt ts pos zero (b ∷ s) = elim (undecided ts (b ∷ s)) [
-    true ↦ record { ids = []; stop = waiting pos (b ∷ s) }
+  | true ↦ record { ids = []; stop = waiting pos (b ∷ s) }
   | false ↦ elim (longest ts (b ∷ s)) [
-        none ↦ record { ids = []; stop = stuck pos b }
-      | some t ↦ ran (t .id) (runAt ts (suc pos) (pred (length (t .bytes))) s) ] ]
+    | none ↦ record { ids = []; stop = stuck pos b }
+    | some t ↦ ran (t .id) (runAt ts (suc pos) (pred (length (t .bytes))) s)
+  ]
+]
 
 abbrev pub run : List Token → List ℕ → Run
 run ts s = runAt ts 0 0 s

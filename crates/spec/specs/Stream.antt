@@ -77,14 +77,18 @@ again r = record { number = 22; count = 0; place = r .stopOffset; value = r .sto
 unfoldable pub callRefusal : StreamRecord → Call → Option Answer
 callRefusal r c =
     elim (leb endedPhase (r .phase) || (ltb 254 (r .heldLen) || ltb (r .total) (r .heldLen))) [
-      true ↦ some (bare 26)
-    | false ↦ elim (eqb (r .phase) stoppedPhase) [
-          true ↦ some (again r)
+      | true ↦ some (bare 26)
+      | false ↦ elim (eqb (r .phase) stoppedPhase) [
+        | true ↦ some (again r)
         | false ↦ elim (tooMany c (r .total)) [
-              true ↦ some (bare 25)
-            | false ↦ elim (ltb (length (outOf c)) (r .heldLen + length (pieceOf c))) [
-                  true ↦ some (bare 24)
-                | false ↦ none ] ] ] ]
+          | true ↦ some (bare 25)
+          | false ↦ elim (ltb (length (outOf c)) (r .heldLen + length (pieceOf c))) [
+            | true ↦ some (bare 24)
+            | false ↦ none
+          ]
+        ]
+      ]
+    ]
 
 -- ---- the bytes
 
@@ -94,8 +98,9 @@ unfolding matchOn
 scanOn m pos k [] = record { ids = []; end = done }
 scanOn m pos (suc k) (b ∷ s) = scanOn m (suc pos) k s
 scanOn m pos zero (b ∷ s) = elim (matchOn m (b ∷ s)) [
-    nothing ↦ record { ids = []; end = failed pos b }
-  | found i len ↦ scanned i (scanOn m (suc pos) (pred len) s) ]
+  | nothing ↦ record { ids = []; end = failed pos b }
+  | found i len ↦ scanned i (scanOn m (suc pos) (pred len) s)
+]
 
 -- the running form on any memory, as that on tokens
 unfoldable pub runOn : Memory → ℕ → ℕ → List ℕ → Run
@@ -103,10 +108,12 @@ unfolding matchOn undecidedOn
 runOn m pos k [] = record { ids = []; stop = waiting pos [] }
 runOn m pos (suc k) (b ∷ s) = runOn m (suc pos) k s
 runOn m pos zero (b ∷ s) = elim (undecidedOn m (b ∷ s)) [
-    true ↦ record { ids = []; stop = waiting pos (b ∷ s) }
+  | true ↦ record { ids = []; stop = waiting pos (b ∷ s) }
   | false ↦ elim (matchOn m (b ∷ s)) [
-        nothing ↦ record { ids = []; stop = stuck pos b }
-      | found i len ↦ ran i (runOn m (suc pos) (pred len) s) ] ]
+    | nothing ↦ record { ids = []; stop = stuck pos b }
+    | found i len ↦ ran i (runOn m (suc pos) (pred len) s)
+  ]
+]
 
 -- ---- what a call does
 
@@ -125,7 +132,8 @@ abbrev pub stops : ℕ → List ℕ → ℕ → ℕ → Called
 stops total ids offset byte = record {
   answer = record { number = 22; count = length ids; place = offset; value = byte };
   stream = stoppedAt total offset byte;
-  ids = ids }
+  ids = ids;
+}
 
 -- an add that went through: "Held bytes are those from the first undecided position"
 abbrev pub added : ℕ → List ℕ → Stop → Called
@@ -155,8 +163,9 @@ orElse (some a) r c = unchanged r a
 unfoldable pub callOn : Memory → StreamRecord → Call → Called
 unfolding tooShort callRefusal goesThrough
 callOn m r c = elim (tooShort m) [
-    true ↦ unchanged r (bare 1)
-  | false ↦ orElse (callRefusal r c) r (goesThrough m r c) ]
+  | true ↦ unchanged r (bare 1)
+  | false ↦ orElse (callRefusal r c) r (goesThrough m r c)
+]
 
 -- ---- the equations of the scan and the running form, case by case
 

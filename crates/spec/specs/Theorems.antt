@@ -22,8 +22,24 @@ use Rattle.spec.specs.Decode.{Decoding, lookup, decoding}
 use Rattle.spec.specs.Decode as decode
 use Rattle.spec.specs.Load.{Room, Place, byte, Outcome, accepted, refused, load, loadOn}
 use Rattle.spec.specs.Stream.{StreamRecord, Call, callRefusal, fresh}
-use Rattle.spec.specs.Plain.{Phase, opened, stopped, ended, Plain, start, Sure, Fails, Certain, Reply, Steps, Follows, handed,
-    repliesOn, BytePieces, recordOf}
+use Rattle.spec.specs.Plain.{
+  Phase,
+  opened,
+  stopped,
+  ended,
+  Plain,
+  start,
+  Sure,
+  Fails,
+  Certain,
+  Reply,
+  Steps,
+  Follows,
+  handed,
+  repliesOn,
+  BytePieces,
+  recordOf,
+}
 
 -- ── Matching ─────────────────────────────────────────────────────────
 
@@ -68,7 +84,7 @@ RoundTrip = (ts : List Token) → Valid ts → (s : List ℕ) → scan ts s .end
 abbrev pub UpToFailure : Type 0
 UpToFailure = (ts : List Token) → Valid ts → (s : List ℕ) (k b : ℕ) → scan ts s .end ≡ failed k b
     → (k < length s) × (getD s k 0 ≡ b) × (scan ts (take k s) ≡ record { ids = scan ts s .ids; end = done })
-        × (joined ts (scan ts s .ids) ≡ take k s)
+    × (joined ts (scan ts s .ids) ≡ take k s)
 
 -- ── Decoding ─────────────────────────────────────────────────────────
 

@@ -85,19 +85,19 @@ module _ (m : Memory) (piece : List ℕ) (from count total all at n : ℕ) (befo
 
   pub rest-through : RunsTo m piece from (length piece) count lent out (Through at n)
       → (r .answer ≡ Taken n) × (recordOf (r .stream) ≡ holding 0 all (drop at piece)) → Hands all before (runFrom m total piece from)
-          lent out r
+      lent out r
   rest-through w g =
       let c = w .comes in
       let nil : drop at piece ≡ [] = drop-of-length-le piece (c .0) in
       hands-opened all before (runFrom m total piece from) lent out r (w .ids) n (total + at) (counts w) (writes w) (drop at piece)
       (c .2 piece total (alike-self m piece)
       ∙ ap (prepend (w .ids)) (ap (runOn m (total + at) 0) nil ∙ run-nil m (total + at)
-          ∙ ap (λ (t : List ℕ). record { ids = []; stop = waiting (total + at) t }) (sym nil))
+      ∙ ap (λ (t : List ℕ). record { ids = []; stop = waiting (total + at) t }) (sym nil))
       ∙ ap (λ (x : List ℕ). record { ids = x; stop = waiting (total + at) (drop at piece) }) (append-nil (w .ids))) g
 
   pub rest-waiting : RunsTo m piece from (length piece) count lent out (Waiting at n)
       → (r .answer ≡ Taken n) × (recordOf (r .stream) ≡ holding 0 all (drop at piece)) → Hands all before (runFrom m total piece from)
-          lent out r
+      lent out r
   rest-waiting w g =
       hands-opened all before (runFrom m total piece from) lent out r (w .ids) n (total + at) (counts w) (writes w) (drop at piece)
       (w .comes .2 piece total (alike-self m piece)) g
@@ -135,18 +135,18 @@ module _ (m : Memory) (held piece : List ℕ) (pos total all at n : ℕ) (lent o
   held-waiting w g =
       let c = w .comes in
       hands-opened all [] (runOn m pos 0 (held ++ piece)) lent out r (w .ids) n (pos + at) (w .count) (w .written)
-          (drop at (window held piece))
+      (drop at (window held piece))
       (start ∙ c .2 (held ++ piece) pos (window-alike m held piece)
       ∙ ap (λ (t : List ℕ). record { ids = w .ids; stop = waiting (pos + at) (drop at t) })
-          (sym (waits-whole m held piece at (c .0) (c .1)))) g
+      (sym (waits-whole m held piece at (c .0) (c .1)))) g
 
   pub held-stuck : RunsTo m (window held piece) 0 (length held) 0 lent out (Stuck at n)
       → (r .answer ≡ Stopped n (pos + at) (getD (window held piece) at 0))
-          × (recordOf (r .stream) ≡ stoppedAt all (pos + at) (getD (window held piece) at 0))
+      × (recordOf (r .stream) ≡ stoppedAt all (pos + at) (getD (window held piece) at 0))
       → Hands all [] (runOn m pos 0 (held ++ piece)) lent out r
   held-stuck w g =
       hands-stopped all [] (runOn m pos 0 (held ++ piece)) lent out r (w .ids) n (pos + at) (w .count) (w .written)
-          (getD (window held piece) at 0)
+      (getD (window held piece) at 0)
       (start ∙ w .comes .1 (held ++ piece) pos (window-alike m held piece)) g
 
   pub held-through : (mid : List ℕ) (w : RunsTo m (window held piece) 0 (length held) 0 lent mid (Through at n)) → pos + length held ≡ total

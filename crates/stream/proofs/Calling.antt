@@ -13,8 +13,21 @@ use Rattle.spec.specs.Scan.{Stop, waiting, stuck, Run}
 use Rattle.spec.specs.Memory.{Memory, tooShort}
 use Rattle.spec.specs.Match.{Match, nothing, found, matchOn, undecidedOn}
 use Rattle.spec.specs.Stream as spec
-use Rattle.spec.specs.Stream.{StreamRecord, Call, add, end, added, runOn, runOn-waits, runOn-none, runOn-some, unchanged, callRefusal,
-    goesThrough, callOn}
+use Rattle.spec.specs.Stream.{
+  StreamRecord,
+  Call,
+  add,
+  end,
+  added,
+  runOn,
+  runOn-waits,
+  runOn-none,
+  runOn-some,
+  unchanged,
+  callRefusal,
+  goesThrough,
+  callOn,
+}
 use Rattle.stream.specs.declared.Called.{Called}
 use Rattle.stream.specs.Answers.{recordOf, answerOf, Answered}
 use Rattle.stream.specs.Running.{Hands}
@@ -49,7 +62,7 @@ few-ids m pos zero (b ∷ s) = go (undecidedOn m (b ∷ s)) refl (matchOn m (b �
 
 through-add : (m : Memory) (r : StreamRecord) (piece out : List ℕ)
     → goesThrough m r (add piece out) ≡ (let u = runOn m (r .total - r .heldLen) 0 (take (r .heldLen) (r .held) ++ piece) in added
-        (r .total + length piece) (u .ids) (u .stop))
+    (r .total + length piece) (u .ids) (u .stop))
 unfolding goesThrough
 through-add m r piece out = refl
 
@@ -64,7 +77,7 @@ module _ (m : Memory) (r : StreamRecord) (piece lent : List ℕ) (long : tooShor
     (many : length (take (r .heldLen) (r .held)) ≡ r .heldLen) where
   pub gives-added : (out : List ℕ) (d : Called)
       → Hands (r .total + length piece) [] (runOn m (r .total - length (take (r .heldLen) (r .held))) 0 (take (r .heldLen) (r .held)
-          ++ piece)) lent out d
+      ++ piece)) lent out d
       → Answered (callOn m r (add piece lent)) d lent out
   gives-added out d h =
       let held : List ℕ = take (r .heldLen) (r .held) in

@@ -14,8 +14,19 @@ use Rattle.spec.specs.Memory.{Memory, tooShort}
 use Rattle.spec.specs.Match.{Match, nothing, found, matchOn}
 use Rattle.spec.specs.Encode.{EncodeEnd, complete, unmatched, full, Encoding, encoded, encodeAt, encoding, encodeAnswer, Output, encodeOn}
 use Rattle.spec.specs.Stream as spec
-use Rattle.spec.specs.Stream.{StreamRecord, end, holding, stoppedAt, closed, scanOn, scanOn-none, scanOn-some, callRefusal, goesThrough,
-    callOn}
+use Rattle.spec.specs.Stream.{
+  StreamRecord,
+  end,
+  holding,
+  stoppedAt,
+  closed,
+  scanOn,
+  scanOn-none,
+  scanOn-some,
+  callRefusal,
+  goesThrough,
+  callOn,
+}
 use Rattle.stream.specs.declared.Called.{Called}
 use Rattle.stream.specs.declared.Answer.the-variants.{Taken, Stopped}
 use Rattle.stream.specs.Answers.{recordOf, answerOf, Answered}
@@ -65,7 +76,7 @@ shifts m d pos zero (b ∷ s) = go (matchOn m (b ∷ s)) refl (λ k. shifts m d 
     go (found i l) e f =
         let p : suc (d + pos) ≡ d + suc pos = omega arith in
         scanOn-some m (d + pos) b s i l e ∙ ap (scanned i) (ap (λ (x : ℕ). scanOn m x (pred l) s) p ∙ f (pred l))
-            ∙ ap (later d) (sym (scanOn-some m pos b s i l e))
+        ∙ ap (later d) (sym (scanOn-some m pos b s i l e))
 
 -- a scan fails at one of its bytes
 fails-within : (m : Memory) (pos k : ℕ) (s : List ℕ) (p b : ℕ) → scanOn m pos k s .end ≡ failed p b → p < pos + length s
@@ -113,7 +124,7 @@ module _ (m : Memory) (s : List ℕ) (n : ℕ) (long : tooShort m ≡ false) (ro
       go (failed p b) w =
           let q = e ∙ its-answer (failed p b) w in
           let x : scanOn m 0 0 s .end ≡ failed offset byte = w
-              ∙ sym (ap₂ failed (ap (λ (a : Answer). a .place) q) (ap (λ (a : Answer). a .value) q)) in
+          ∙ sym (ap₂ failed (ap (λ (a : Answer). a .place) q) (ap (λ (a : Answer). a .value) q)) in
           (x, ap (λ (a : Answer). a .count) q, omega (arith, fails-within m 0 0 s offset byte x))
 
   -- it has no other answer
@@ -129,7 +140,7 @@ module _ (m : Memory) (s : List ℕ) (n : ℕ) (long : tooShort m ≡ false) (ro
 module _ (m : Memory) (r : StreamRecord) (lent out : List ℕ) (d : Called) (long : tooShort m ≡ false) (goes : none
     ≡ callRefusal r (end lent))
     (room : length (take (r .heldLen) (r .held)) ≤ length lent) (written : out
-        ≡ over (encodeOn m (length lent) (take (r .heldLen) (r .held)) .cells) lent) where
+    ≡ over (encodeOn m (length lent) (take (r .heldLen) (r .held)) .cells) lent) where
   abbrev held : List ℕ
   held = take (r .heldLen) (r .held)
 

@@ -96,7 +96,7 @@ module _ (m : Memory) (src : List ℕ) (from stop start : ℕ) (lent out : List 
               w .runs S pos a
               ∙ ap (prepend (w .ids)) (from-some m pos S i (omega arith) id len (a .undecided i h ∙ u) (a .matched i h ∙ e) l (omega arith))
               ∙ ap (λ (x : List ℕ). record { ids = x; stop = runFrom m pos S (i + len) .stop })
-                  (sym (append-assoc (w .ids) (id ∷ []) (runFrom m pos S (i + len) .ids)));
+              (sym (append-assoc (w .ids) (id ∷ []) (runFrom m pos S (i + len) .ids)));
         }
 
     pub ends-waiting : undecidedOn m (drop i src) ≡ true → RunsTo m src from stop start lent out (Waiting i n)

@@ -67,7 +67,7 @@ module _ (m : Memory) (held piece : List ℕ) where
             long = omega arith;
             undecided = λ i k. let d = length-drop i (held ++ piece) in let f = length-drop i (held ++ take 254 piece) in
                 long-decided m (drop i (held ++ piece)) (omega arith)
-                    ∙ sym (long-decided m (drop i (held ++ take 254 piece)) (omega arith));
+                ∙ sym (long-decided m (drop i (held ++ take 254 piece)) (omega arith));
             matched = λ i k. let d = length-drop i held in
                 sym (match-cut m 255 (drop i (held ++ piece)) (omega arith))
                 ∙ ap (matchOn m) (ap (take 255) (drop-append-le i held piece (omega arith))

@@ -42,7 +42,7 @@ Comes m src from stop ids (Through at count) =
     (stop ≤ at) × (at ≤ length src) × Runs m src stop from (λ S pos. prepend ids (runFrom m pos S at))
 Comes m src from stop ids (Waiting at count) =
     (at < stop) × (undecidedOn m (drop at src) ≡ true)
-        × Runs m src stop from (λ S pos. record { ids = ids; stop = waiting (pos + at) (drop at S) })
+    × Runs m src stop from (λ S pos. record { ids = ids; stop = waiting (pos + at) (drop at S) })
 Comes m src from stop ids (Stuck at count) =
     (at < stop) × Runs m src stop from (λ S pos. record { ids = ids; stop = stuck (pos + at) (getD src at 0) })
 

@@ -9,7 +9,7 @@ use mathlib.Core.List.{Memᴰ·cast as mem-cast, Memᴰ·map as mem-map, Memᴰ�
 use Prim.Native.Nat.{ℕ, zero, suc, _+_, _-_, _≤_, _<_}
 use native.Mathlib.Omega.{arith}
 use lib.Dec.{eqb}
-use lib.ListN.{length, getD}
+use lib.ListN.{length, getD, take}
 use borrow.Author.Tests.{eqb-true, eqb-false}
 use Rattle.spec.specs.Lists.{same, has, Bytes}
 use Rattle.spec.specs.Trie.{labels}
@@ -17,7 +17,7 @@ use Rattle.laws.specs.Tests.{either, clash, no-true, same-eq, same-refl, has-me
 use Rattle.laws.specs.Nodes.{label-node, node-label, labels-short}
 use Rattle.laws.specs.Numbered.{number, place-lt, place-stays, place-new, Fresh, labels-fresh, pigeon}
 use Rattle.laws.specs.Chain.{kids, seek, seek-hit, seek-miss}
-use Rattle.trie.specs.Run.{see}
+use Rattle.trie.specs.Run.{Nodes, see}
 use Rattle.trie.specs.Insertion.{find}
 use Rattle.trie.specs.Turns.{yes-case, no-case, find-end, find-here, find-on}
 use Rattle.trie.specs.Stands.{final, Chain, num, Tree}
@@ -195,7 +195,7 @@ kids-length ps p = length-map (λ (l : ℕ). number ps (p ++ (l ∷ []))) (label
 pub kids-short : (ps : List (List ℕ)) (p : List ℕ) → length (kids ps p) ≤ length ps
 kids-short ps p = let a = kids-length ps p in let b = labels-short ps p in omega arith
 
-module _ {ps : List (List ℕ)} {I : List ℕ → ℕ} {m : List ℕ} (T : Tree ps I m) where
+module _ {ps : List (List ℕ)} {I : List ℕ → ℕ} {m : Nodes} (T : Tree ps I m) where
   -- every label is a byte, so that there are at most 256 of them
   pub label-byte : (p : List ℕ) (l : ℕ) → Mem l (labels ps p) → l < 256
   label-byte p l k = subst (λ (x : ℕ). x < 256) (final-snoc p l) (T .byte (p ++ (l ∷ [])) (label-node ps p l k))
@@ -237,3 +237,13 @@ module _ {ps : List (List ℕ)} {I : List ℕ → ℕ} {m : List ℕ} (T : Tree 
 pub bytes-of : (s : List ℕ) → ((k : ℕ) → getD s k 0 < 256) → Bytes s
 bytes-of [] h = tt
 bytes-of (b ∷ s) h = (h 0, bytes-of s (λ k. h (suc k)))
+
+-- the first n numbers are bytes too
+pub known-taken : (n : ℕ) (s : List ℕ) → ((k : ℕ) → getD s k 0 < 256) → (k : ℕ) → getD (take n s) k 0 < 256
+known-taken zero s h k = omega arith
+known-taken (suc n) [] h k = omega arith
+known-taken (suc n) (b ∷ s) h zero = h 0
+known-taken (suc n) (b ∷ s) h (suc k) = known-taken n s (λ j. h (suc j)) k
+
+pub bytes-taken : (n : ℕ) (s : List ℕ) → ((k : ℕ) → getD s k 0 < 256) → Bytes (take n s)
+bytes-taken n s h = bytes-of (take n s) (known-taken n s h)

@@ -14,18 +14,18 @@ use Rattle.laws.specs.Tests.{either}
 use Rattle.laws.specs.Numbered.{number, Fresh, fresh-snoc}
 use Rattle.laws.specs.Grow.{snoc-inj}
 use Rattle.laws.specs.Chain.{kids, number-inj, kids-self, kids-other, one-parent, kids-fresh}
-use Rattle.trie.specs.Run.{room, see, setNode, see-fits, see-same, see-other}
+use Rattle.trie.specs.Run.{Nodes, room, see, setNode, see-same, see-other}
 use Rattle.trie.specs.Insertion.{leaf, grown, withTerm, addChild}
 use Rattle.trie.specs.Turns.{yes-case, no-case}
 use Rattle.trie.specs.Stands.{final, Chain, num, NodeAt, NodeIs, Tree, Growing}
 use Rattle.trie.specs.Chains.{final-snoc, snoc-view, snoc-mem, fresh-last, chain-frame, chain-join, chain-head, equal, num-in}
 use Rattle.trie.specs.Chains.{num-other, number-lt, number-stays, number-new, kid-of, kid-lt, kids-length, labels-few, no-kids}
-use Rattle.trie.specs.Linked.{Alike, alike-same, leaf-fits, Linked, linked-first, linked-more}
+use Rattle.trie.specs.Linked.{Alike, alike-same, Linked, linked-first, linked-more}
 use Rattle.trie.specs.declared.Node.{Node}
 
 -- ---- a node that stays, and a new one
 
-pub node-alike : (m m' : List ℕ) (k : ℕ) (l : List ℕ) (id lab : ℕ) → Alike (see m' k) (see m k)
+pub node-alike : (m m' : Nodes) (k : ℕ) (l : List ℕ) (id lab : ℕ) → Alike (see m' k) (see m k)
     → ((c : ℕ) → Mem c l → see m' c .next ≡ see m c .next) → NodeAt m k l id lab → NodeAt m' k l id lab
 node-alike m m' k l id lab al nx n = record {
   chain = subst (λ (h : ℕ). Chain (λ c. see m' c .next) h l) (sym (al .head))
@@ -35,7 +35,7 @@ node-alike m m' k l id lab al nx n = record {
   label = al .label ∙ n .label;
 }
 
-node-leaf : (m' : List ℕ) (k b : ℕ) → see m' k ≡ leaf b → NodeAt m' k [] 0 b
+node-leaf : (m' : Nodes) (k b : ℕ) → see m' k ≡ leaf b → NodeAt m' k [] 0 b
 unfolding leaf
 node-leaf m' k b e = record {
   chain = ap (λ (x : Node). x .head) e;
@@ -44,12 +44,12 @@ node-leaf m' k b e = record {
   label = ap (λ (x : Node). x .label) e;
 }
 
-leaf-tail : (m' : List ℕ) (k b : ℕ) → see m' k ≡ leaf b → see m' k .tail ≡ final []
+leaf-tail : (m' : Nodes) (k b : ℕ) → see m' k ≡ leaf b → see m' k .tail ≡ final []
 unfolding leaf final
 leaf-tail m' k b e = ap (λ (x : Node). x .tail) e
 
 -- the same, elsewhere
-node-cast : {m : List ℕ} {k k' : ℕ} {l l' : List ℕ} {id id' lab lab' : ℕ} → k ≡ k' → l ≡ l' → id ≡ id' → lab ≡ lab'
+node-cast : {m : Nodes} {k k' : ℕ} {l l' : List ℕ} {id id' lab lab' : ℕ} → k ≡ k' → l ≡ l' → id ≡ id' → lab ≡ lab'
     → NodeAt m k l id lab → NodeAt m k' l' id' lab'
 node-cast {m} {k} {k'} {l} {l'} {id} {id'} {lab} {lab'} p q r s n =
     subst (λ (z : ℕ). NodeAt m z l' id' lab') p
@@ -57,7 +57,7 @@ node-cast {m} {k} {k'} {l} {l'} {id} {id'} {lab} {lab'} p q r s n =
     (subst (λ (z : ℕ). NodeAt m k l z lab') r (subst (λ (z : ℕ). NodeAt m k l id z) s n)))
 
 -- the parent of a new child; tail is the number of its last child
-node-grown : (m m' : List ℕ) (made k b : ℕ) (l : List ℕ) (id lab : ℕ) → Linked m m' made k b → 1 ≤ made → length l + 1 < 65536 → Fresh l
+node-grown : (m m' : Nodes) (made k b : ℕ) (l : List ℕ) (id lab : ℕ) → Linked m m' made k b → 1 ≤ made → length l + 1 < 65536 → Fresh l
     → ((c : ℕ) → Mem c l → c < made) → see m k .tail ≡ final l → NodeAt m k l id lab → NodeAt m' k (l ++ (made ∷ [])) id lab
 unfolding grown leaf
 node-grown m m' made k b l id lab L pos small fr lts tl n = record {
@@ -101,7 +101,7 @@ node-grown m m' made k b l id lab L pos small fr lts tl n = record {
 
 -- ---- a new child
 
-module _ {ps : List (List ℕ)} {I : List ℕ → ℕ} {rs m : List ℕ} (G : Growing ps I rs m) (p : List ℕ) (b : ℕ) (hb : b < 256)
+module _ {ps : List (List ℕ)} {I : List ℕ → ℕ} {rs : List ℕ} {m : Nodes} (G : Growing ps I rs m) (p : List ℕ) (b : ℕ) (hb : b < 256)
     (mp : Mem p ps) (new : Mem (p ++ (b ∷ [])) ps → ⊥) (fit : suc (length ps) < room m) where
   abbrev q : List ℕ
   q = p ++ (b ∷ [])
@@ -115,7 +115,7 @@ module _ {ps : List (List ℕ)} {I : List ℕ → ℕ} {rs m : List ℕ} (G : Gr
   abbrev k : ℕ
   k = number ps p
 
-  abbrev m' : List ℕ
+  abbrev m' : Nodes
   m' = addChild m made k b
 
   abbrev T : Tree ps I m
@@ -228,7 +228,7 @@ module _ {ps : List (List ℕ)} {I : List ℕ → ℕ} {rs m : List ℕ} (G : Gr
 
 -- ---- a new root
 
-module _ {ps : List (List ℕ)} {I : List ℕ → ℕ} {rs m : List ℕ} (G : Growing ps I rs m) (a b : ℕ) (ha : a < 256) (hb : b < 256)
+module _ {ps : List (List ℕ)} {I : List ℕ → ℕ} {rs : List ℕ} {m : Nodes} (G : Growing ps I rs m) (a b : ℕ) (ha : a < 256) (hb : b < 256)
     (new : Mem (a ∷ b ∷ []) ps → ⊥) (fit : suc (length ps) < room m) (many : 65536 ≤ length rs) where
   abbrev rq : List ℕ
   rq = a ∷ b ∷ []
@@ -239,7 +239,7 @@ module _ {ps : List (List ℕ)} {I : List ℕ → ℕ} {rs m : List ℕ} (G : Gr
   abbrev rmade : ℕ
   rmade = suc (length ps)
 
-  abbrev rm : List ℕ
+  abbrev rm : Nodes
   rm = setNode m rmade (leaf b)
 
   abbrev rrs : List ℕ
@@ -249,7 +249,7 @@ module _ {ps : List (List ℕ)} {I : List ℕ → ℕ} {rs m : List ℕ} (G : Gr
   old j h = see-other m rmade (leaf b) j (λ e. omega arith)
 
   at-new : see rm rmade ≡ leaf b
-  at-new = see-same m rmade (leaf b) fit (leaf-fits b hb)
+  at-new = see-same m rmade (leaf b) fit
 
   short-q : (x : List ℕ) → 2 ≤ length x → x ≡ a ∷ [] → ⊥
   short-q x h e = let g = ap length e in let s : length (a ∷ []) ≡ 1 = refl in omega arith
@@ -322,19 +322,20 @@ module _ {ps : List (List ℕ)} {I : List ℕ → ℕ} {rs m : List ℕ} (G : Gr
 
 -- ---- an id at a node
 
-module _ {ps : List (List ℕ)} {I : List ℕ → ℕ} {rs m : List ℕ} (G : Growing ps I rs m) (J : List ℕ → ℕ) (p : List ℕ) (mp : Mem p ps)
-    (id : ℕ) (hid : id < 65536) (is : J p ≡ id) (rest : (x : List ℕ) → (x ≡ p → ⊥) → J x ≡ I x) (fit : number ps p < room m) where
+module _ {ps : List (List ℕ)} {I : List ℕ → ℕ} {rs : List ℕ} {m : Nodes} (G : Growing ps I rs m) (J : List ℕ → ℕ) (p : List ℕ)
+    (mp : Mem p ps) (id : ℕ) (hid : id < 65536) (is : J p ≡ id) (rest : (x : List ℕ) → (x ≡ p → ⊥) → J x ≡ I x)
+    (fit : number ps p < room m) where
   abbrev tk : ℕ
   tk = number ps p
 
   abbrev tn : Node
   tn = withTerm (see m tk) id
 
-  abbrev tm : List ℕ
+  abbrev tm : Nodes
   tm = setNode m tk tn
 
   at-node : see tm tk ≡ tn
-  at-node = see-same m tk tn fit (let f = see-fits m tk in record { term = hid; count = f .count; label = f .label })
+  at-node = see-same m tk tn fit
 
   next-same : (j : ℕ) → see tm j .next ≡ see m j .next
   next-same j = go (either (eqb j tk))

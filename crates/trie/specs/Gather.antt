@@ -14,7 +14,7 @@ use Rattle.spec.specs.Trie.{labels}
 use Rattle.laws.specs.Nodes.{label-node}
 use Rattle.laws.specs.Numbered.{number}
 use Rattle.laws.specs.Chain.{kids}
-use Rattle.trie.specs.Run.{see}
+use Rattle.trie.specs.Run.{Nodes, see}
 use Rattle.trie.specs.Turns.{yes-case, no-case}
 use Rattle.trie.specs.Stands.{Chain, Tree}
 use Rattle.trie.specs.Chains.{final-snoc, kid-lt, kids-length, labels-few}
@@ -26,7 +26,7 @@ labelsFrom M made zero c = []
 labelsFrom M made (suc f) c = let r = labelsFrom M made f (M c .next) in cond (eqb c 0) [] (cond (leb made c) [] (M c .label ∷ r))
 
 -- the labels of a node's children, on any memory
-unfoldable pub labelsOn : List ℕ → ℕ → ℕ → List ℕ
+unfoldable pub labelsOn : Nodes → ℕ → ℕ → List ℕ
 unfolding labelsFrom
 labelsOn m made node = labelsFrom (see m) made 256 (see m node .head)
 
@@ -102,7 +102,7 @@ map-back : (f : ℕ → ℕ) (g : ℕ → ℕ) (l : List ℕ) → ((x : ℕ) →
 map-back f g [] h = refl
 map-back f g (x ∷ l) h = ap₂ (λ (y : ℕ) (r : List ℕ). y ∷ r) (h x (here refl)) (map-back f g l (λ y m. h y (there m)))
 
-pub labels-are : {ps : List (List ℕ)} {I : List ℕ → ℕ} {m : List ℕ} → Tree ps I m → (made node : ℕ) (p : List ℕ) → made ≡ suc (length ps)
+pub labels-are : {ps : List (List ℕ)} {I : List ℕ → ℕ} {m : Nodes} → Tree ps I m → (made node : ℕ) (p : List ℕ) → made ≡ suc (length ps)
     → Mem p ps → node ≡ number ps p → labelsOn m made node ≡ labels ps p
 unfolding labelsOn kids
 labels-are {ps} {I} {m} T made node p em mp en =
@@ -112,7 +112,7 @@ labels-are {ps} {I} {m} T made node p em mp en =
     ∙ map-back (λ c. see m c .label) (λ l. number ps (p ++ (l ∷ []))) (labels ps p)
     (λ l ml. T .node (p ++ (l ∷ [])) (label-node ps p l ml) .label ∙ final-snoc p l)
 
-pub gathered-labels : (m : List ℕ) (made node r : ℕ) (out out' : List ℕ) → Gathered (labelsOn m made node) out out' r
+pub gathered-labels : (m : Nodes) (made node r : ℕ) (out out' : List ℕ) → Gathered (labelsOn m made node) out out' r
     → (ps : List (List ℕ)) (I : List ℕ → ℕ) (p : List ℕ) → Tree ps I m → made ≡ suc (length ps) → Mem p ps → node ≡ number ps p
     → Gathered (labels ps p) out out' r
 gathered-labels m made node r out out' g ps I p T em mp en =

@@ -9,7 +9,8 @@ use mathlib.Core.List.{List·Memᴰ·not-nil as not-nil, Memᴰ·append-right as
 use Prim.Native.Nat.{ℕ, suc, _+_, _*_, _≤_, _<_}
 use native.Mathlib.Omega.{arith}
 use lib.Dec.{eqb, leb}
-use lib.ListN.{length, getD, set, length-append}
+use lib.ListN.{length, getD, set, drop, length-append}
+use lib.Seq.{drop-set-lt}
 use borrow.Author.Tests.{eqb-true, eqb-false, eq-eqb, ne-eqb, le-leb, lt-leb, leb-true, leb-false}
 use Rattle.spec.specs.Lists.{any, fold, same, has, Bytes}
 use Rattle.spec.specs.Token.{Token, idOf, seen}
@@ -19,12 +20,12 @@ use Rattle.laws.specs.Tokens.{id-cases}
 use Rattle.laws.specs.Nodes.{Cut, cuts-cut, is-node}
 use Rattle.laws.specs.Numbered.{number}
 use Rattle.laws.specs.Grow.{nodes-snoc, id-snoc}
-use Rattle.trie.specs.Run.{room, see, setNode, length-setNode}
+use Rattle.trie.specs.Run.{Nodes, room, see, setNode, length-setNode}
 use Rattle.trie.specs.Insertion.{leaf, withTerm, childOf, addChild, State, state, childMade, descendOn, Rooted, rooted, rootMade}
 use Rattle.trie.specs.Insertion.{Ended, finishOn, After, after, insertOn}
 use Rattle.trie.specs.Turns.{yes-case, no-case, made-old, made-full, made-new, length-addChild, desc-zero, root-full, root-new}
 use Rattle.trie.specs.Turns.{root-old, fin-none, fin-twice, fin-made, Sound, desc-sound, root-sound}
-use Rattle.trie.specs.Stands.{num, Growing, Stands, answerFor, Grown}
+use Rattle.trie.specs.Stands.{num, Growing, Stands, answerFor, Grown, RootsKept}
 use Rattle.trie.specs.Chains.{snoc-mem, member, num-in, num-out, number-pos, number-lt, number-new, find-child}
 use Rattle.trie.specs.Child.{child-keeps, root-keeps, id-keeps}
 use Rattle.trie.specs.declared.Inserted.{Inserted}
@@ -71,7 +72,7 @@ abbrev pub Landed : List (List ℕ) → (List ℕ → ℕ) → List ℕ → ℕ 
 Landed ps' I rs cap q s = Reached ps' I rs cap q s ⊎ TooMany ps' cap s
 
 module _ (I : List ℕ → ℕ) (rs : List ℕ) (cap : ℕ) where
-  step : (m : List ℕ) (k made b : ℕ) (l : List ℕ) → (k ≡ 0 → ⊥)
+  step : (m : Nodes) (k made b : ℕ) (l : List ℕ) → (k ≡ 0 → ⊥)
       → descendOn cap (state m k made) (b ∷ l) ≡ descendOn cap (childMade cap m made k b) l
   unfolding descendOn
   step m k made b l h = no-case _ _ (ne-eqb k 0 h)
@@ -83,7 +84,7 @@ module _ (I : List ℕ → ℕ) (rs : List ℕ) (cap : ℕ) where
       subst (λ (z : List (List ℕ)). cap < suc (length (fold addNew z xs))) (sym (new-out ps q n))
       (let a = fold-grows xs (ps ++ (q ∷ [])) in let c = one-more ps q in omega arith)
 
-  desc-land : (l : List ℕ) (ps : List (List ℕ)) (p : List ℕ) (m : List ℕ) → Bytes l → Growing ps I rs m → Mem p ps → suc (length ps) ≤ cap
+  desc-land : (l : List ℕ) (ps : List (List ℕ)) (p : List ℕ) (m : Nodes) → Bytes l → Growing ps I rs m → Mem p ps → suc (length ps) ≤ cap
       → cap ≤ room m → Landed (fold addNew ps (extended p l)) I rs cap (p ++ l) (descendOn cap (state m (number ps p) (suc (length ps))) l)
   unfolding extended fold descendOn
   desc-land [] ps p m hl G mp h fit =
@@ -111,7 +112,7 @@ module _ (I : List ℕ → ℕ) (rs : List ℕ) (cap : ℕ) where
       found = unfold childOf in find-child (G .tree) p b mp
 
       go : Mem q ps ⊎ (Mem q ps → ⊥) → (leb cap made ≡ true) ⊎ (leb cap made ≡ false)
-          → ((ps1 : List (List ℕ)) (m1 : List ℕ) → Growing ps1 I rs m1 → Mem q ps1 → suc (length ps1) ≤ cap → cap ≤ room m1
+          → ((ps1 : List (List ℕ)) (m1 : Nodes) → Growing ps1 I rs m1 → Mem q ps1 → suc (length ps1) ≤ cap → cap ≤ room m1
           → Landed (fold addNew ps1 (extended q l)) I rs cap (q ++ l) (descendOn cap (state m1 (number ps1 q) (suc (length ps1))) l))
           → Landed (fold addNew (addNew ps q) (extended q l)) I rs cap (q ++ l) (descendOn cap (childMade cap m made k b) l)
       go (inl mq) e r =
@@ -145,7 +146,7 @@ module _ (I : List ℕ → ℕ) (rs : List ℕ) (cap : ℕ) where
 
 -- ---- from the root
 
-module _ {ps : List (List ℕ)} {I : List ℕ → ℕ} {rs m : List ℕ} (G : Growing ps I rs m) (cap : ℕ) (fit : cap ≤ room m)
+module _ {ps : List (List ℕ)} {I : List ℕ → ℕ} {rs : List ℕ} {m : Nodes} (G : Growing ps I rs m) (cap : ℕ) (fit : cap ≤ room m)
     (many : 65536 ≤ length rs)
     (have : suc (length ps) ≤ cap) (a b : ℕ) (ha : a < 256) (hb : b < 256) (l : List ℕ) (hl : Bytes l) where
   abbrev two : List ℕ
@@ -241,7 +242,7 @@ id-else ts t low x ne = id-snoc ts t x low ∙ go (either (eqb (idOf ts x) 0))
         yes-case _ _ e ∙ no-case _ _ (no-true (same x (t .bytes)) (λ y. ne (same-eq x (t .bytes) y))) ∙ sym (eqb-true (idOf ts x) 0 e)
     go (inr e) = no-case _ _ e
 
-module _ (ts : List Token) (rs m : List ℕ) (S : Stands ts rs m) (cap : ℕ) (fit : cap ≤ room m) (many : 65536 ≤ length rs)
+module _ (ts : List Token) (rs : List ℕ) (m : Nodes) (S : Stands ts rs m) (cap : ℕ) (fit : cap ≤ room m) (many : 65536 ≤ length rs)
     (have : nodeCount ts ≤ cap)
     (a b : ℕ) (ha : a < 256) (hb : b < 256) (l : List ℕ) (hl : Bytes l) (id : ℕ) (idl : 1 ≤ id) (idh : id < 65536) where
   abbrev t : Token
@@ -351,7 +352,7 @@ module _ (ts : List Token) (rs m : List ℕ) (S : Stands ts rs m) (cap : ℕ) (f
 
 -- ---- any bytes, two or more
 
-insert-at : (ts : List Token) (rs m : List ℕ) → Stands ts rs m → (cap : ℕ) → cap ≤ room m → 65536 ≤ length rs → nodeCount ts ≤ cap
+insert-at : (ts : List Token) (rs : List ℕ) (m : Nodes) → Stands ts rs m → (cap : ℕ) → cap ≤ room m → 65536 ≤ length rs → nodeCount ts ≤ cap
     → (bs : List ℕ) → 2 ≤ length bs → Bytes bs → (id : ℕ) → 1 ≤ id → id < 65536
     → Grown ts (record { id = id; bytes = bs }) cap (insertOn cap rs m (suc (length (nodes ts))) bs id .answer)
     (insertOn cap rs m (suc (length (nodes ts))) bs id .roots) (insertOn cap rs m (suc (length (nodes ts))) bs id .mem)
@@ -362,9 +363,9 @@ insert-at ts rs m S cap fit many have (a ∷ b ∷ l) two hb id idl idh =
     right ts rs m S cap fit many have a b (hb .0) (hb .1 .0) l (hb .1 .1) id idl idh
 
 -- of an answer and a memory that are insertOn's
-pub insert-right : (ts : List Token) (rs m : List ℕ) → Stands ts rs m → (cap : ℕ) → cap ≤ room m → 65536 ≤ length rs
+pub insert-right : (ts : List Token) (rs : List ℕ) (m : Nodes) → Stands ts rs m → (cap : ℕ) → cap ≤ room m → 65536 ≤ length rs
     → (made : ℕ) → made ≡ nodeCount ts → made ≤ cap → (bs : List ℕ) → 2 ≤ length bs → Bytes bs → (id : ℕ) → 1 ≤ id → id < 65536
-    → (rs' m' : List ℕ) (r : Inserted) → after rs' m' r ≡ insertOn cap rs m made bs id
+    → (rs' : List ℕ) (m' : Nodes) (r : Inserted) → after rs' m' r ≡ insertOn cap rs m made bs id
     → Grown ts (record { id = id; bytes = bs }) cap r rs' m'
 unfolding nodeCount
 insert-right ts rs m S cap fit many made em have bs two hb id idl idh rs' m' r e =
@@ -375,7 +376,7 @@ insert-right ts rs m S cap fit many made em have bs two hb id idl idh rs' m' r e
 
 -- ---- the start: no token, roots all 0, any nodes
 
-pub stands-none : (rs m : List ℕ) → ((i : ℕ) → i < 65536 → getD rs i 0 ≡ 0) → Stands [] rs m
+pub stands-none : (rs : List ℕ) (m : Nodes) → ((i : ℕ) → i < 65536 → getD rs i 0 ≡ 0) → Stands [] rs m
 unfolding nodes
 stands-none rs m h = record {
   growing = record {
@@ -399,7 +400,7 @@ pub nodes-one : (ts : List Token) (id b : ℕ) → nodes (ts ++ (record { id = i
 unfolding cuts extended fold
 nodes-one ts id b = nodes-snoc ts (record { id = id; bytes = b ∷ [] })
 
-pub stands-one : (ts : List Token) (rs m : List ℕ) (id b : ℕ) → 1 ≤ id → Stands ts rs m → Stands
+pub stands-one : (ts : List Token) (rs : List ℕ) (m : Nodes) (id b : ℕ) → 1 ≤ id → Stands ts rs m → Stands
     (ts ++ (record { id = id; bytes = b ∷ [] } ∷ [])) rs m
 stands-one ts rs m id b idl S = record {
   growing = subst (λ (ps : List (List ℕ)). Growing ps (idOf ts') rs m) (sym (nodes-one ts id b)) record {
@@ -432,3 +433,21 @@ stands-one ts rs m id b idl S = record {
     stays p h =
         id-else ts (record { id = id; bytes = b ∷ [] }) (S .low) p
         (λ e. let g = ap length e in let s : length (b ∷ []) ≡ 1 = refl in omega arith)
+
+-- insertion changes no cell behind the roots
+roots-kept : (rs : List ℕ) (at new : ℕ) (p q w : Bool) (a b c d : State) → at < 65536
+    → drop 65536 (cond p (cond q (rooted rs a) (rooted (set rs at new) b)) (cond w (rooted rs c) (rooted rs d)) .roots) ≡ drop 65536 rs
+roots-kept rs at new true true w a b c d h = refl
+roots-kept rs at new true false w a b c d h = drop-set-lt 65536 rs at new h
+roots-kept rs at new false q true a b c d h = refl
+roots-kept rs at new false q false a b c d h = refl
+
+pub insert-keeps : (most : ℕ) (rs : List ℕ) (ns : Nodes) (made : ℕ) (bs : List ℕ) (id : ℕ) → getD bs 0 0 < 256 → getD bs 1 0 < 256
+    → (rs′ : List ℕ) (ns′ : Nodes) (a : Inserted) → after rs′ ns′ a ≡ insertOn most rs ns made bs id → RootsKept rs rs′
+unfolding insertOn rootMade
+insert-keeps most rs ns made bs id h k rs′ ns′ a e =
+    let at : ℕ = getD bs 0 0 * 256 + getD bs 1 0 in
+    record {
+      behind = ap (λ (x : After). drop 65536 (x .roots)) e
+          ∙ roots-kept rs at made (eqb (getD rs at 0) 0) (leb most made) (leb made (getD rs at 0)) _ _ _ _ (omega arith);
+    }

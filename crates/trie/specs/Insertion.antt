@@ -6,8 +6,9 @@ use mathlib.Core.List.{List, [], _∷_}
 use Prim.Native.Nat.{ℕ, zero, suc, _+_, _*_, _%_, _^_}
 use lib.Dec.{eqb, leb}
 use lib.ListN.{getD, set, drop}
-use Rattle.trie.specs.Run.{see, setNode}
+use Rattle.trie.specs.Run.{Nodes, see, setNode}
 use Rattle.trie.specs.declared.Node.{Node}
+use Rattle.trie.specs.declared.Rooting.{Rooting}
 use Rattle.trie.specs.declared.Inserted.{Inserted}
 use Rattle.trie.specs.declared.Inserted.the-variants.{Duplicate, NoRoom, Made}
 
@@ -47,16 +48,16 @@ find M made b (suc f) c =
     cond (eqb c 0) 0 (cond (leb made c) 0 (cond (eqb (M c .label) b) c r))
 
 -- the child of parent by b
-unfoldable pub childOf : List ℕ → ℕ → ℕ → ℕ → ℕ
+unfoldable pub childOf : Nodes → ℕ → ℕ → ℕ → ℕ
 unfolding find
 childOf m made parent b = find (see m) made b made (see m parent .head)
 
 -- node new becomes the sibling after the last child of p, if p has one
-unfoldable pub linkLast : List ℕ → Node → ℕ → List ℕ
+unfoldable pub linkLast : Nodes → Node → ℕ → Nodes
 linkLast m p new = cond (eqb (p .head) 0) m (cond (leb new (p .tail)) m (setNode m (p .tail) (withNext (see m (p .tail)) new)))
 
 -- node made becomes the last child of parent, by b
-unfoldable pub addChild : List ℕ → ℕ → ℕ → ℕ → List ℕ
+unfoldable pub addChild : Nodes → ℕ → ℕ → ℕ → Nodes
 unfolding leaf linkLast grown
 addChild m made parent b = setNode (linkLast (setNode m made (leaf b)) (see m parent) made) parent (grown (see m parent) made)
 
@@ -64,15 +65,15 @@ addChild m made parent b = setNode (linkLast (setNode m made (leaf b)) (see m pa
 
 -- the nodes, the node reached (0: no room), how many nodes are made
 pub record State : Type 0 where
-  pub mem : List ℕ
+  pub mem : Nodes
   pub node : ℕ
   pub made : ℕ
 
-abbrev pub state : List ℕ → ℕ → ℕ → State
+abbrev pub state : Nodes → ℕ → ℕ → State
 state m k made = record { mem = m; node = k; made = made }
 
 -- the child of parent by b, made if there is none
-unfoldable pub childMade : ℕ → List ℕ → ℕ → ℕ → ℕ → State
+unfoldable pub childMade : ℕ → Nodes → ℕ → ℕ → ℕ → State
 unfolding childOf addChild
 childMade cap m made parent b =
     let c = childOf m made parent b in
@@ -92,20 +93,24 @@ abbrev pub rooted : List ℕ → State → Rooted
 rooted rs s = record { roots = rs; st = s }
 
 -- the node whose number is root at, made if there is none
-unfoldable pub rootMade : ℕ → List ℕ → List ℕ → ℕ → ℕ → ℕ → Rooted
+unfoldable pub rootMade : ℕ → List ℕ → Nodes → ℕ → ℕ → ℕ → Rooted
 unfolding leaf
 rootMade cap rs m made at b =
     cond (eqb (getD rs at 0) 0)
     (cond (leb cap made) (rooted rs (state m 0 made)) (rooted (set rs at made) (state (setNode m made (leaf b)) made (made + 1))))
     (cond (leb made (getD rs at 0)) (rooted rs (state m 0 made)) (rooted rs (state m (getD rs at 0) made)))
 
+-- what a root that was found gives: the nodes with a leaf more where one is to be made
+abbrev pub rootGiven : List ℕ → Rooting → Nodes → ℕ → ℕ → Rooted
+rootGiven rs r m made b = rooted rs (state (cond (r .new) (setNode m made (leaf b)) m) (r .place .node) (r .place .made))
+
 -- ---- a token
 
 pub record Ended : Type 0 where
-  pub mem : List ℕ
+  pub mem : Nodes
   pub answer : Inserted
 
-abbrev pub ended : List ℕ → Inserted → Ended
+abbrev pub ended : Nodes → Inserted → Ended
 ended m r = record { mem = m; answer = r }
 
 -- the token of this id ends at the node reached
@@ -118,14 +123,14 @@ finishOn s id =
 
 pub record After : Type 0 where
   pub roots : List ℕ
-  pub mem : List ℕ
+  pub mem : Nodes
   pub answer : Inserted
 
-abbrev pub after : List ℕ → List ℕ → Inserted → After
+abbrev pub after : List ℕ → Nodes → Inserted → After
 after rs m r = record { roots = rs; mem = m; answer = r }
 
 -- a token of two bytes or more
-unfoldable pub insertOn : ℕ → List ℕ → List ℕ → ℕ → List ℕ → ℕ → After
+unfoldable pub insertOn : ℕ → List ℕ → Nodes → ℕ → List ℕ → ℕ → After
 unfolding rootMade descendOn finishOn
 insertOn cap rs m made bs id =
     let w = rootMade cap rs m made (getD bs 0 0 * 256 + getD bs 1 0) (getD bs 1 0) in

@@ -4,12 +4,11 @@ use mathlib.Core.Logic.{_⊎_, inl, inr}
 use mathlib.Core.Bool.{Bool, true, false}
 use mathlib.Core.List.{List}
 use Prim.Native.Nat.{ℕ, _+_, _<_}
-use native.Mathlib.Nat.{mod-lt}
 use native.Mathlib.Omega.{arith}
-use lib.Dec.{eqb, lit<}
+use lib.Dec.{eqb}
 use lib.ListN.{length}
 use borrow.Author.Tests.{eqb-true, eqb-false}
-use Rattle.trie.specs.Run.{room, see, setNode, Fits, see-fits, length-setNode, see-same, see-other}
+use Rattle.trie.specs.Run.{Nodes, room, see, setNode, length-setNode, see-same, see-other}
 use Rattle.trie.specs.Insertion.{leaf, grown, withNext, addChild}
 use Rattle.trie.specs.Turns.{last-none, last-next}
 use Rattle.trie.specs.declared.Node.{Node}
@@ -31,37 +30,29 @@ alike-same e = record {
   label = ap (λ (x : Node). x .label) e;
 }
 
-pub leaf-fits : (b : ℕ) → b < 256 → Fits (leaf b)
-unfolding leaf
-leaf-fits b h = record { term = lit< tt; count = lit< tt; label = h }
-
-pub grown-fits : (p : Node) (new : ℕ) → Fits p → Fits (grown p new)
-unfolding grown
-grown-fits p new f = record { term = f .term; count = mod-lt (p .count + 1) (lit< tt); label = f .label }
-
-pub record Linked (m m' : List ℕ) (made p b : ℕ) : Type 0 where
+pub record Linked (m m' : Nodes) (made p b : ℕ) : Type 0 where
   pub new : see m' made ≡ leaf b
   pub par : see m' p ≡ grown (see m p) made
   pub oth : (j : ℕ) → (j ≡ made → ⊥) → (j ≡ p → ⊥) → Alike (see m' j) (see m j)
   pub nxt : (j : ℕ) → (j ≡ made → ⊥) → (see m p .head ≡ 0) ⊎ (j ≡ see m p .tail → ⊥) → see m' j .next ≡ see m j .next
   pub last : (see m p .head ≡ 0 → ⊥) → see m' (see m p .tail) .next ≡ made
 
-module _ (m : List ℕ) (made p b : ℕ) (fit : made < room m) (hp : p < made) (hb : b < 256) where
-  abbrev ma : List ℕ
+module _ (m : Nodes) (made p b : ℕ) (fit : made < room m) (hp : p < made) (hb : b < 256) where
+  abbrev ma : Nodes
   ma = setNode m made (leaf b)
 
   len-a : length ma ≡ length m
   len-a = length-setNode m made (leaf b)
 
   at-made : see ma made ≡ leaf b
-  at-made = see-same m made (leaf b) fit (leaf-fits b hb)
+  at-made = see-same m made (leaf b) fit
 
-  module _ (mb : List ℕ) (lb : length mb ≡ length m) where
-    abbrev m' : List ℕ
+  module _ (mb : Nodes) (lb : length mb ≡ length m) where
+    abbrev m' : Nodes
     m' = setNode mb p (grown (see m p) made)
 
     at-p : see m' p ≡ grown (see m p) made
-    at-p = see-same mb p (grown (see m p) made) (omega (arith, lb)) (grown-fits (see m p) made (see-fits m p))
+    at-p = see-same mb p (grown (see m p) made) (omega (arith, lb))
 
     off-p : (j : ℕ) → (j ≡ p → ⊥) → see m' j ≡ see mb j
     off-p j h = see-other mb p (grown (see m p) made) j h
@@ -73,7 +64,7 @@ module _ (m : List ℕ) (made p b : ℕ) (fit : made < room m) (hp : p < made) (
   pub linked-first : see m p .head ≡ 0 → Linked m (addChild m made p b) made p b
   unfolding addChild
   linked-first z =
-      subst (λ (x : List ℕ). Linked m (setNode x p (grown (see m p) made)) made p b) (sym (last-none ma (see m p) made z))
+      subst (λ (x : Nodes). Linked m (setNode x p (grown (see m p) made)) made p b) (sym (last-none ma (see m p) made z))
       record {
         new = off-p ma len-a made (λ e. omega arith) ∙ at-made;
         par = at-p ma len-a;
@@ -95,7 +86,7 @@ module _ (m : List ℕ) (made p b : ℕ) (fit : made < room m) (hp : p < made) (
     abbrev nt : Node
     nt = withNext (see ma t) made
 
-    abbrev mb : List ℕ
+    abbrev mb : Nodes
     mb = setNode ma t nt
 
     lb : length mb ≡ length m
@@ -104,11 +95,8 @@ module _ (m : List ℕ) (made p b : ℕ) (fit : made < room m) (hp : p < made) (
     old-t : see ma t ≡ see m t
     old-t = see-other m made (leaf b) t (λ e. omega arith)
 
-    nt-fits : Fits nt
-    nt-fits = let f = see-fits ma t in record { term = f .term; count = f .count; label = f .label }
-
     at-t : see mb t ≡ nt
-    at-t = see-same ma t nt (omega (arith, len-a)) nt-fits
+    at-t = see-same ma t nt (omega (arith, len-a))
 
     off-t : (j : ℕ) → (j ≡ t → ⊥) → see mb j ≡ see ma j
     off-t j h = see-other ma t nt j h
@@ -125,7 +113,7 @@ module _ (m : List ℕ) (made p b : ℕ) (fit : made < room m) (hp : p < made) (
     pub linked-more : (see m p .head ≡ 0 → ⊥) → Linked m (addChild m made p b) made p b
     unfolding addChild
     linked-more z =
-        subst (λ (x : List ℕ). Linked m (setNode x p (grown (see m p) made)) made p b)
+        subst (λ (x : Nodes). Linked m (setNode x p (grown (see m p) made)) made p b)
         (sym (last-next ma (see m p) made (see ma t) z ht refl))
         record {
           new = off-p mb lb made (λ e. omega arith) ∙ off-t made (λ e. omega arith) ∙ at-made;

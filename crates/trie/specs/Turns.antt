@@ -8,7 +8,7 @@ use lib.Dec.{eqb, leb}
 use lib.ListN.{length, getD, drop, set, drop-of-length-le}
 use lib.Seq.{drop-cons}
 use borrow.Author.Tests.{eq-eqb, ne-eqb, le-leb, lt-leb, leb-false}
-use Rattle.trie.specs.Run.{see, setNode, length-setNode}
+use Rattle.trie.specs.Run.{Nodes, see, setNode, length-setNode}
 use Rattle.trie.specs.Insertion.{leaf, grown, withNext, withTerm, find, childOf, linkLast, addChild, State, state, childMade}
 use Rattle.trie.specs.Insertion.{descendOn, Rooted, rooted, rootMade, Ended, ended, finishOn, after, insertOn}
 use Rattle.trie.specs.declared.Node.{Node}
@@ -75,22 +75,22 @@ module _ (M : ℕ → Node) (made b : ℕ) where
       go false false q true r = leb-false made c q
       go false false q false r = r
 
-pub child-start : (m : List ℕ) (made parent b : ℕ) (n : Node) → n ≡ see m parent
+pub child-start : (m : Nodes) (made parent b : ℕ) (n : Node) → n ≡ see m parent
     → find (see m) made b made (n .head) ≡ childOf m made parent b
 unfolding childOf
 child-start m made parent b n e = ap (λ (x : Node). find (see m) made b made (x .head)) e
 
 -- ---- linkLast
 
-pub last-none : (m : List ℕ) (p : Node) (new : ℕ) → p .head ≡ 0 → linkLast m p new ≡ m
+pub last-none : (m : Nodes) (p : Node) (new : ℕ) → p .head ≡ 0 → linkLast m p new ≡ m
 unfolding linkLast
 last-none m p new e = yes-case _ _ (eq-eqb (p .head) 0 e)
 
-pub last-out : (m : List ℕ) (p : Node) (new : ℕ) → (p .head ≡ 0 → ⊥) → new ≤ p .tail → linkLast m p new ≡ m
+pub last-out : (m : Nodes) (p : Node) (new : ℕ) → (p .head ≡ 0 → ⊥) → new ≤ p .tail → linkLast m p new ≡ m
 unfolding linkLast
 last-out m p new z h = no-case _ _ (ne-eqb (p .head) 0 z) ∙ yes-case _ _ (le-leb new (p .tail) h)
 
-pub last-next : (m : List ℕ) (p : Node) (new : ℕ) (n : Node) → (p .head ≡ 0 → ⊥) → p .tail < new → n ≡ see m (p .tail)
+pub last-next : (m : Nodes) (p : Node) (new : ℕ) (n : Node) → (p .head ≡ 0 → ⊥) → p .tail < new → n ≡ see m (p .tail)
     → linkLast m p new ≡ setNode m (p .tail) (withNext n new)
 unfolding linkLast
 last-next m p new n z h q =
@@ -99,7 +99,7 @@ last-next m p new n z h q =
 
 -- ---- lengths
 
-pub length-linkLast : (m : List ℕ) (p : Node) (new : ℕ) → length (linkLast m p new) ≡ length m
+pub length-linkLast : (m : Nodes) (p : Node) (new : ℕ) → length (linkLast m p new) ≡ length m
 unfolding linkLast
 length-linkLast m p new = go (eqb (p .head) 0) (leb new (p .tail))
   where
@@ -108,7 +108,7 @@ length-linkLast m p new = go (eqb (p .head) 0) (leb new (p .tail))
     go false true = refl
     go false false = length-setNode m (p .tail) _
 
-pub length-addChild : (m : List ℕ) (made parent b : ℕ) → length (addChild m made parent b) ≡ length m
+pub length-addChild : (m : Nodes) (made parent b : ℕ) → length (addChild m made parent b) ≡ length m
 unfolding addChild
 length-addChild m made parent b =
     length-setNode (linkLast (setNode m made (leaf b)) (see m parent) made) parent (grown (see m parent) made)
@@ -116,7 +116,7 @@ length-addChild m made parent b =
 
 -- ---- childMade
 
-module _ (cap : ℕ) (m : List ℕ) (made parent b c : ℕ) (is : c ≡ childOf m made parent b) where
+module _ (cap : ℕ) (m : Nodes) (made parent b c : ℕ) (is : c ≡ childOf m made parent b) where
   pub made-old : (c ≡ 0 → ⊥) → childMade cap m made parent b ≡ state m c made
   unfolding childMade
   made-old z = no-case _ _ (ne-eqb (childOf m made parent b) 0 (λ e. z (is ∙ e))) ∙ ap (λ (k : ℕ). state m k made) (sym is)
@@ -135,7 +135,7 @@ pub record Sound (cap n : ℕ) (s : State) : Type 0 where
   pub made-le : s .made ≤ cap
   pub len : length (s .mem) ≡ n
 
-pub made-sound : (cap : ℕ) (m : List ℕ) (made parent b : ℕ) → parent < made → made ≤ cap
+pub made-sound : (cap : ℕ) (m : Nodes) (made parent b : ℕ) → parent < made → made ≤ cap
     → Sound cap (length m) (childMade cap m made parent b)
 unfolding childMade
 made-sound cap m made parent b h k = go (eqb r 0) (leb cap made) refl (lower (omega arith))
@@ -188,7 +188,7 @@ desc-sound cap n s (b ∷ l) h = go (eqb (s .node) 0) (desc-sound cap n (childMa
 
 -- ---- rootMade
 
-module _ (cap : ℕ) (rs m : List ℕ) (made at b : ℕ) where
+module _ (cap : ℕ) (rs : List ℕ) (m : Nodes) (made at b : ℕ) where
   pub root-full : getD rs at 0 ≡ 0 → cap ≤ made → rootMade cap rs m made at b ≡ rooted rs (state m 0 made)
   unfolding rootMade
   root-full z h = yes-case _ _ (eq-eqb (getD rs at 0) 0 z) ∙ yes-case _ _ (le-leb cap made h)
@@ -244,14 +244,14 @@ module _ (s : State) (id : ℕ) where
 
 -- ---- insertOn
 
-pub root-whole : (cap : ℕ) (rs m : List ℕ) (made at b : ℕ) {w : Rooted} → w ≡ rootMade cap rs m made at b → 1 ≤ made → made ≤ cap
+pub root-whole : (cap : ℕ) (rs : List ℕ) (m : Nodes) (made at b : ℕ) {w : Rooted} → w ≡ rootMade cap rs m made at b → 1 ≤ made → made ≤ cap
     → Sound cap (length m) (w .st)
 root-whole cap rs m made at b e p q = subst (λ (x : Rooted). Sound cap (length m) (x .st)) (sym e) (root-sound cap rs m made at b p q)
 
 pub desc-whole : (cap n : ℕ) (s : State) (l : List ℕ) {u : State} → u ≡ descendOn cap s l → Sound cap n s → Sound cap n u
 desc-whole cap n s l e h = subst (Sound cap n) (sym e) (desc-sound cap n s l h)
 
-pub insert-is : (cap : ℕ) (rs m : List ℕ) (made : ℕ) (bs : List ℕ) (id at : ℕ) (w : Rooted) (s : State) (d : Ended)
+pub insert-is : (cap : ℕ) (rs : List ℕ) (m : Nodes) (made : ℕ) (bs : List ℕ) (id at : ℕ) (w : Rooted) (s : State) (d : Ended)
     → at ≡ getD bs 0 0 * 256 + getD bs 1 0 → w ≡ rootMade cap rs m made at (getD bs 1 0) → s ≡ descendOn cap (w .st) (drop 2 bs)
     → d ≡ finishOn s id
     → after (w .roots) (d .mem) (d .answer) ≡ insertOn cap rs m made bs id

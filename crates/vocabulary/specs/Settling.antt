@@ -24,6 +24,7 @@ use Rattle.loading.specs.Left.{load-refused, by-tests}
 use Rattle.utf8.specs.Means.{textMeans}
 use Rattle.utf8.specs.declared.Text.{Text}
 use Rattle.utf8.specs.declared.Text.the-variants as Text
+use Rattle.trie.specs.Run.{Nodes}
 use Rattle.builder.specs.Built.{Built, Kept, FinishedAs}
 use Rattle.builder.specs.Finish.{over-of, same-memory}
 use Rattle.builder.specs.Grow.{count-more}
@@ -89,7 +90,7 @@ same-counts : {a b c d a′ b′ c′ d′ : ℕ} → a ≡ a′ → b ≡ b′ 
 same-counts p q r t = cc
 
 module _ (partial : Bool) (r : Room) (text : List ℕ) (s₀ : List ℤ) (os₀ bl₀ rs₀ tb : List ℕ) {ts : List Token} {s : List ℤ}
-    {os bl rs ns : List ℕ} {st : Build}
+    {os bl rs : List ℕ} {ns : Nodes} {st : Build}
     (read : load partial r text ≡ finish partial r ts) (B : Built ts s os bl rs ns st) (K : Kept s₀ os₀ rs₀ s os rs)
     (eb : length bl ≡ length bl₀) where
   pub built-finished : (end : Finished) (os′ rs′ tb′ : List ℕ) → FinishedAs partial r ts end os rs tb os′ rs′ tb′
@@ -111,7 +112,7 @@ module _ (partial : Bool) (r : Room) (text : List ℕ) (s₀ : List ℤ) (os₀ 
   built-finished Finished.NoTable os′ rs′ tb′ F = read ∙ F
 
 -- the lines of a text that were all taken: what `finish` asks of the build, and what it answers is the build's answer
-module _ (partial : Bool) (r : Room) (text : List ℕ) (s : List ℤ) (os bl rs ns : List ℕ) (p : Lines)
+module _ (partial : Bool) (r : Room) (text : List ℕ) (s : List ℤ) (os bl rs : List ℕ) (ns : Nodes) (p : Lines)
     (T : LinesAs partial r text p s os bl rs ns)
     (st : Build) (e : p ≡ Lines.All st) where
   all : LinesAs partial r text (Lines.All st) s os bl rs ns
@@ -137,7 +138,7 @@ module _ (partial : Bool) (r : Room) (text : List ℕ) (s : List ℤ) (os bl rs 
       (built-finished partial r text s₀ os₀ bl₀ rs₀ tb read B K eb end os′ rs′ tb′ (F ts B))
 
 -- a line that was refused refuses the build
-pub lines-refused : (partial : Bool) (r : Room) (text : List ℕ) (s : List ℤ) (os bl rs ns : List ℕ) (p : Lines)
+pub lines-refused : (partial : Bool) (r : Room) (text : List ℕ) (s : List ℤ) (os bl rs : List ℕ) (ns : Nodes) (p : Lines)
     → LinesAs partial r text p s os bl rs ns → (n k : ℕ) → p ≡ Lines.Refused n k
     → (a : Load) → a ≡ Load.Refused (record { number = n; place = Place.Line k }) → (m m′ : Memory) → BuiltAs partial r text a m m′
 lines-refused partial r text s os bl rs ns p T n k e a q m m′ =

@@ -1,11 +1,12 @@
 -- The walk over a text's lines: what is left of the text, taken from the tokens so far, is what the whole text gives. Assumes nothing.
 use mathlib.Core.Path.{_≡_, refl, sym, ap, ap₂, _∙_, subst}
-use mathlib.Core.Bool.{Bool}
+use mathlib.Core.Bool.{Bool, true, false, not}
 use mathlib.Core.Option.{Option, none, some}
 use mathlib.Core.List.{List, [], _∷_, _++_}
-use Prim.Native.Nat.{ℕ, suc, _+_, _-_, _/_, _≤_, _<_}
+use Prim.Native.Nat.{ℕ, suc, _+_, _-_, _≤_, _<_}
 use native.Mathlib.Omega.{arith}
 use lib.IntN.{ℤ}
+use lib.Dec.{T}
 use lib.ListN.{length, take, drop, length-drop}
 use lib.Seq.{drop-drop}
 use Rattle.spec.specs.Check.{Check, pass, refuse, andThen}
@@ -13,6 +14,7 @@ use Rattle.spec.specs.Line.{First, lines, nextLine, turn, lines-next, nextLine-
 use Rattle.spec.specs.Token.{Token}
 use Rattle.spec.specs.Load.{Room, lastId, readLine, admit, takeLine, line, refused, finish, takeLines, load}
 use Rattle.laws.specs.Bounds.{tokens-few, nodeCount-small, blob-small}
+use Rattle.trie.specs.Run.{Nodes}
 use Rattle.builder.specs.Built.{Built, Kept, Small, roomFor, PushedAs}
 use Rattle.builder.specs.Grow.{count-more}
 use Rattle.builder.specs.declared.Build.{Build}
@@ -53,6 +55,52 @@ a-line at end next (some f) e = record { found = f; is = refl; end-is = cc; next
 pub line-at : (text : List ℕ) (at : ℕ) (p : NextLine) (end next : ℕ) → p ≡ NextLine.Line end next → p ≡ lineAt at (nextLine (drop at text))
     → LineFrom at end next (nextLine (drop at text))
 line-at text at p end next e q = a-line at end next (nextLine (drop at text)) (sym e ∙ q)
+
+-- whether there is a line, how long it is, and how far the next one is
+abbrev pub isLine : Option First → Bool
+isLine none = false
+isLine (some f) = true
+
+abbrev pub sizeOf : Option First → ℕ
+sizeOf none = 0
+sizeOf (some f) = f .size
+
+abbrev pub nextOf : Option First → ℕ
+nextOf none = 0
+nextOf (some f) = f .next
+
+-- the same of the code's answer
+abbrev pub lineIs : NextLine → Bool
+lineIs (NextLine.Line end next) = true
+lineIs NextLine.Nothing = false
+
+abbrev pub lineEnd : NextLine → ℕ
+lineEnd (NextLine.Line end next) = end
+lineEnd NextLine.Nothing = 0
+
+abbrev pub lineNext : NextLine → ℕ
+lineNext (NextLine.Line end next) = next
+lineNext NextLine.Nothing = 0
+
+pub is-at : (at : ℕ) (o : Option First) → lineIs (lineAt at o) ≡ isLine o
+is-at at none = refl
+is-at at (some f) = refl
+
+pub end-at : (at : ℕ) (o : Option First) → T (isLine o) → lineEnd (lineAt at o) ≡ at + sizeOf o
+end-at at none y = absurd y
+end-at at (some f) y = refl
+
+pub next-from : (at : ℕ) (o : Option First) → T (isLine o) → lineNext (lineAt at o) ≡ at + nextOf o
+next-from at none y = absurd y
+next-from at (some f) y = refl
+
+pub line-here : (at : ℕ) (o : Option First) → T (isLine o) → LineFrom at (at + sizeOf o) (at + nextOf o) o
+line-here at none y = absurd y
+line-here at (some f) y = record { found = f; is = refl; end-is = refl; next-is = refl }
+
+pub no-lines-left : (at : ℕ) (o : Option First) → T (not (isLine o)) → NextLine.Nothing ≡ lineAt at o
+no-lines-left at none y = refl
+no-lines-left at (some f) y = absurd y
 
 -- it lies in the text, and goes on
 pub line-within : (text : List ℕ) (at end next : ℕ) → LineFrom at end next (nextLine (drop at text))
@@ -117,26 +165,26 @@ line-read r ts l t e = ap (λ (c : Check Token). andThen c (admit r ts)) e ∙ (
 
 -- what a push says of the line that stated the token
 pub line-pushed : (r : Room) (ts : List Token) (l : List ℕ) (t : Token) → readLine (lastId ts) l ≡ pass t
-    → (p : Pushed) (s : List ℤ) (os bl rs ns : List ℕ) → PushedAs r ts t p s os bl rs ns → LineAs r ts l p s os bl rs ns
+    → (p : Pushed) (s : List ℤ) (os bl rs : List ℕ) (ns : Nodes) → PushedAs r ts t p s os bl rs ns → LineAs r ts l p s os bl rs ns
 line-pushed r ts l t e (Pushed.Taken st) s os bl rs ns P = (ts ++ (t ∷ []), line-read r ts l t e ∙ P .0, P .1)
 line-pushed r ts l t e (Pushed.Refused n) s os bl rs ns P = line-read r ts l t e ∙ P
 
 -- ---- the loop over the lines
 
 -- the table plays no part in a line
-room-for-line : (ns bl : List ℕ) (table : ℕ) (ts : List Token) (l : List ℕ)
+room-for-line : (ns : Nodes) (bl : List ℕ) (table : ℕ) (ts : List Token) (l : List ℕ)
     → takeLine (roomFor ns bl table) ts l ≡ takeLine (roomFor ns bl 0) ts l
 unfolding takeLine admit
 room-for-line ns bl table ts l = refl
 
 -- room is a matter of lengths
-same-room : (ns ns₀ bl bl₀ : List ℕ) (table : ℕ) → length ns ≡ length ns₀ → length bl ≡ length bl₀
+same-room : (ns ns₀ : Nodes) (bl bl₀ : List ℕ) (table : ℕ) → length ns ≡ length ns₀ → length bl ≡ length bl₀
     → roomFor ns bl table ≡ roomFor ns₀ bl₀ table
-same-room ns ns₀ bl bl₀ table a b = ap₂ (λ (x y : ℕ). record { nodes = x / 6; blob = y; table = table }) a b
+same-room ns ns₀ bl bl₀ table a b = ap₂ (λ (x y : ℕ). record { nodes = x; blob = y; table = table }) a b
 
 -- The memory, from s₀ .. on, holds the tokens of the lines before `at`, so many; what is left gives what the whole text does.
-pub record Going (text : List ℕ) (s₀ : List ℤ) (os₀ bl₀ rs₀ ns₀ : List ℕ) (s : List ℤ) (os bl rs ns : List ℕ) (st : Build)
-    (at n : ℕ) : Type 0 where
+pub record Going (text : List ℕ) (s₀ : List ℤ) (os₀ bl₀ rs₀ : List ℕ) (ns₀ : Nodes) (s : List ℤ) (os bl rs : List ℕ) (ns : Nodes)
+    (st : Build) (at n : ℕ) : Type 0 where
   pub tokens : List Token
   pub built : Built tokens s os bl rs ns st
   pub left : (partial : Bool) (table : ℕ) → Left partial (roomFor ns₀ bl₀ table) text n at tokens
@@ -149,7 +197,7 @@ pub record Going (text : List ℕ) (s₀ : List ℤ) (os₀ bl₀ rs₀ ns₀ : 
   pub roots-length : length rs ≡ length rs₀
   pub nodes-length : length ns ≡ length ns₀
 
-pub going-starts : (text : List ℕ) (s : List ℤ) (os bl rs ns : List ℕ) (st : Build) → Built [] s os bl rs ns st
+pub going-starts : (text : List ℕ) (s : List ℤ) (os bl rs : List ℕ) (ns : Nodes) (st : Build) → Built [] s os bl rs ns st
     → Going text s os bl rs ns s os bl rs ns st 0 0
 going-starts text s os bl rs ns st B = record {
   tokens = [];
@@ -166,7 +214,7 @@ going-starts text s os bl rs ns st B = record {
 }
 
 -- numbers of a build fit their widths
-pub small-of : {ts : List Token} {s : List ℤ} {os bl rs ns : List ℕ} {st : Build} → Built ts s os bl rs ns st → Small st
+pub small-of : {ts : List Token} {s : List ℤ} {os bl rs : List ℕ} {ns : Nodes} {st : Build} → Built ts s os bl rs ns st → Small st
 small-of {ts} B =
     let a = tokens-few ts (B .valid) in
     let b = nodeCount-small ts (B .valid) in
@@ -176,8 +224,8 @@ small-of {ts} B =
     let f = B .used in
     record { tokens = omega arith; made = (let k = count-more ts in omega arith, omega arith); used = omega arith }
 
-module _ {text : List ℕ} {s₀ : List ℤ} {os₀ bl₀ rs₀ ns₀ : List ℕ} {s : List ℤ} {os bl rs ns : List ℕ} {st : Build} {at n : ℕ}
-    (G : Going text s₀ os₀ bl₀ rs₀ ns₀ s os bl rs ns st at n) where
+module _ {text : List ℕ} {s₀ : List ℤ} {os₀ bl₀ rs₀ : List ℕ} {ns₀ : Nodes} {s : List ℤ} {os bl rs : List ℕ} {ns : Nodes} {st : Build}
+    {at n : ℕ} (G : Going text s₀ os₀ bl₀ rs₀ ns₀ s os bl rs ns st at n) where
   abbrev ts : List Token
   ts = G .tokens
 
@@ -190,8 +238,8 @@ module _ {text : List ℕ} {s₀ : List ℤ} {os₀ bl₀ rs₀ ns₀ : List ℕ
     G .built,
   )
 
-  module _ (end next : ℕ) (L : LineFrom at end next (nextLine (drop at text))) (p : Pushed) (s′ : List ℤ) (os′ bl′ rs′ ns′ : List ℕ)
-      (took : (table : ℕ) (us : List Token) → Built us s os bl rs ns st
+  module _ (end next : ℕ) (L : LineFrom at end next (nextLine (drop at text))) (p : Pushed) (s′ : List ℤ) (os′ bl′ rs′ : List ℕ)
+      (ns′ : Nodes) (took : (table : ℕ) (us : List Token) → Built us s os bl rs ns st
       → LineAs (roomFor ns bl table) us (take (end - at) (drop at text)) p s′ os′ bl′ rs′ ns′) where
     now-as : (x : Pushed) → p ≡ x → (table : ℕ) → LineAs (roomFor ns₀ bl₀ table) ts (take (end - at) (drop at text)) x s′ os′ bl′ rs′ ns′
     now-as x e table =

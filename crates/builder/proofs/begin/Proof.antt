@@ -24,10 +24,13 @@ same-length-5 c = search needs
 
 returns : tie.Need-returns
 returns c =
-    let a = c .before .before .before .before .before .before .before .before .before .before .before .before .before .before .before .before .before .before .before .args in
-    (c .before .before .before .before .before .before .before .before .before .empty .ensures, λ nodes. built-begins (a .single .now)
-        (a .offsets .now) (a .blob .now) (a .roots .now) nodes (a .table .now)
-        (c .before .before .before .before .before .before .before .before .before .empty .ensures))
+    let a = c .before .before .before .before .before .before .before .before .before .before .before .before .before .before .before
+    .before .before .before .before .args in (
+      c .before .before .before .before .before .before .before .before .before .empty .ensures,
+      λ nodes. built-begins (a .single .now)
+          (a .offsets .now) (a .blob .now) (a .roots .now) nodes (a .table .now)
+          (c .before .before .before .before .before .before .before .before .before .empty .ensures),
+    )
 
 pub begin-spec : {M : Type 1} → statement M
 begin-spec =

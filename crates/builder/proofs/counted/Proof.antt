@@ -19,7 +19,7 @@ returns : tie.Need-returns
 returns c =
     let a = c .before .before .before .args in
     ap {B = Build} (λ (n : ℕ). record { previous = a .id; tokens = a .st .tokens + 1; made = a .made; used = a .st .used + n })
-        (c .before .narrow .ensures)
+    (c .before .narrow .ensures)
 
 pub counted-spec : {M : Type 1} → statement M
 counted-spec = tie.close (tie.spec add-t5 narrow-requires add-t7 returns)

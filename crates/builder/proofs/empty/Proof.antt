@@ -36,7 +36,12 @@ same-length-5 c = search needs
 
 returns : tie.Need-returns
 returns c = all-emptied _ _ _ _ _
-    (c .before .before .before .before .before .before .before .before .before .before .before .before .before .before .before .before .before .before .before .before .before .before .before .pre) (c .before .before .before .before .before .before .before .before .before .before .before .before .before .before .before .before .before .fill-none .ensures) (c .before .before .before .before .before .before .before .before .before .before .before .before .before .before .fill-u32 .ensures) (c .before .before .before .before .before .before .before .before .before .before .fill-u8 .ensures) (c .before .before .before .before .before .before .fill-u64 .ensures) (c .before .before .fill-u642 .ensures)
+    (c .before .before .before .before .before .before .before .before .before .before .before .before .before .before .before .before
+    .before .before .before .before .before .before .before .pre) (c .before .before .before .before .before .before .before .before
+    .before .before .before .before .before .before .before .before .before .fill-none .ensures)
+    (c .before .before .before .before .before .before .before .before .before .before .before .before .before .before .fill-u32
+    .ensures) (c .before .before .before .before .before .before .before .before .before .before .fill-u8 .ensures)
+    (c .before .before .before .before .before .before .fill-u64 .ensures) (c .before .before .fill-u642 .ensures)
 
 pub empty-spec : {M : Type 1} → statement M
 empty-spec =

@@ -50,11 +50,14 @@ loop-less : tie.Need-loop-less Inv-loop μ-loop
 loop-less c = omega arith
 
 loop-again : tie.Need-loop-again Inv-loop μ-loop
-loop-again c = (omega arith, missing-next _ _ (c .before .before .before .loop-test .taken)
-    (sym (c .before .taken .ensures
-    ∙ ap isTaken (toZ-ofZ {w = w32} {z = getD (c .before .before .before .before .before .args .single .now)
-    (c .before .before .before .before .loop .b) (pos 0)} (sfits-of (c .before .before .taken-arg .given)))) ∙ not-false _ (c .if1 .left))
-    ∙ c .before .before .before .before .loop .inv .1)
+loop-again c = (
+  omega arith,
+  missing-next _ _ (c .before .before .before .loop-test .taken)
+      (sym (c .before .taken .ensures
+      ∙ ap isTaken (toZ-ofZ {w = w32} {z = getD (c .before .before .before .before .before .args .single .now)
+      (c .before .before .before .before .loop .b) (pos 0)} (sfits-of (c .before .before .taken-arg .given)))) ∙ not-false _ (c .if1 .left))
+      ∙ c .before .before .before .before .loop .inv .1,
+)
 
 returns-2 : tie.Need-returns-2 Inv-loop μ-loop
 returns-2 c = missing-end _ _ (c .loop-test .left) ∙ c .before .loop .inv .1

@@ -28,9 +28,16 @@ same-length-3 : tie.Need-same-length-3
 same-length-3 c = search needs
 
 returns : tie.Need-returns
-returns c = (c .before .before .before .before .before .before .before .before .before .before .set-single .ensures,
-    (c .before .before .before .before .before .before .before .set-offsets .ensures, c .before .before .copy .ensures
-    ∙ ap (λ (x : ℕ). sets (c .before .before .before .before .before .before .before .before .before .before .before .before .before .before .before .args .blob .now) x (c .before .before .before .before .before .before .before .before .before .before .before .before .before .before .before .args .bytes .now)) (c .before .before .before .wide .ensures)))
+returns c = (
+  c .before .before .before .before .before .before .before .before .before .before .set-single .ensures,
+  (
+    c .before .before .before .before .before .before .before .set-offsets .ensures,
+    c .before .before .copy .ensures
+        ∙ ap (λ (x : ℕ). sets (c .before .before .before .before .before .before .before .before .before .before .before .before .before
+        .before .before .args .blob .now) x (c .before .before .before .before .before .before .before .before .before .before .before
+        .before .before .before .before .args .bytes .now)) (c .before .before .before .wide .ensures),
+  ),
+)
 
 pub write-spec : {M : Type 1} → statement M
 write-spec =

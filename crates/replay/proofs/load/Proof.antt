@@ -8,32 +8,17 @@ use borrow.Author.Needs.{needs}
 use Rattle.replay.proofs.load.Statement.{statement}
 use Rattle.replay.proofs.load.Tie as tie
 
-mul-nodes : tie.Need-mul-nodes
-mul-nodes c = search needs
-
-array-borrow-prefix-nodes : tie.Need-array-borrow-prefix-nodes
-array-borrow-prefix-nodes c = search needs
-
-slice-aggregate-rwkv-load : tie.Need-slice-aggregate-rwkv-load
-slice-aggregate-rwkv-load c =
-    sym (length-take-le {A = ℕ} _ (replicate 24576 0) (omega (
-      arith,
-      c .before .before .before .before .before .before .before
-          .before .before .before .before .pre,
-      length-replicate {0} {A = ℕ} 24576 0,
-    )))
-
 mul-used : tie.Need-mul-used
 mul-used c = search needs
 
 array-borrow-prefix-used : tie.Need-array-borrow-prefix-used
 array-borrow-prefix-used c = search needs
 
-slice-aggregate-rwkv-load-2 : tie.Need-slice-aggregate-rwkv-load-2
-slice-aggregate-rwkv-load-2 c = sym (length-take-le _ _ (omega (
+slice-aggregate-load-in : tie.Need-slice-aggregate-load-in
+slice-aggregate-load-in c = sym (length-take-le _ _ (omega (
   arith,
   c .before .before .before .before .before .before .before
-      .before .before .before .before .before .pre,
+      .before .before .before .before .pre,
 )))
 
 mul-used-bases : tie.Need-mul-used-bases
@@ -42,15 +27,15 @@ mul-used-bases c = search needs
 array-borrow-prefix-used-bases : tie.Need-array-borrow-prefix-used-bases
 array-borrow-prefix-used-bases c = search needs
 
-slice-aggregate-rwkv-load-3 : tie.Need-slice-aggregate-rwkv-load-3
-slice-aggregate-rwkv-load-3 c = sym (length-take-le _ _ (omega (
+slice-aggregate-load-in-2 : tie.Need-slice-aggregate-load-in-2
+slice-aggregate-load-in-2 c = sym (length-take-le _ _ (omega (
   arith,
   c .before .before .before .before .before .before .before
-      .before .before .before .before .before .before .pre,
+      .before .before .before .before .before .pre,
 )))
 
-rwkv-load-requires : tie.Need-rwkv-load-requires
-rwkv-load-requires c κs = search needs
+load-in-requires : tie.Need-load-in-requires
+load-in-requires c κs = search needs
 
 same-length : tie.Need-same-length
 same-length c = search needs
@@ -74,16 +59,13 @@ pub load-spec : {M : Type 1} → statement M
 load-spec =
     tie.close
     (tie.spec
-    mul-nodes
-    array-borrow-prefix-nodes
-    slice-aggregate-rwkv-load
     mul-used
     array-borrow-prefix-used
-    slice-aggregate-rwkv-load-2
+    slice-aggregate-load-in
     mul-used-bases
     array-borrow-prefix-used-bases
-    slice-aggregate-rwkv-load-3
-    rwkv-load-requires
+    slice-aggregate-load-in-2
+    load-in-requires
     same-length
     same-length-2
     same-length-3

@@ -80,14 +80,14 @@ enum-known-refusal c = search needs
 returns-2 : tie.Need-returns-2
 returns-2 c =
     gives-refused (lent (c .before .before .before .before .before .before .before .before .before .before .before .before))
-        (held-by (c .before .before .before .before .before .before .before .before .before .before .before .before))
-        (called (c .before .before .before .before .before .before .before .before .before .before .before .before)) _
-        (now (c .before .before .before .before .before .before .before .before .before .before .before .before .args .out))
-        (long (c .before .before .before .before)) _
+    (held-by (c .before .before .before .before .before .before .before .before .before .before .before .before))
+    (called (c .before .before .before .before .before .before .before .before .before .before .before .before)) _
+    (now (c .before .before .before .before .before .before .before .before .before .before .before .before .args .out))
+    (long (c .before .before .before .before)) _
     (ap refusalOf (sym (c .before .refusal .given .1)) ∙ c .before .before .before .refused-by .ensures
-        (now (c .before .before .before .before .before .before .before .before .before .before .before .before .args .piece))
-        (now (c .before .before .before .before .before .before .before .before .before .before .before .before .args .out)) refl refl)
-        refl refl
+    (now (c .before .before .before .before .before .before .before .before .before .before .before .before .args .piece))
+    (now (c .before .before .before .before .before .before .before .before .before .before .before .before .args .out)) refl refl)
+    refl refl
 
 enum-told : tie.Need-enum-told
 enum-told c = search needs
@@ -96,9 +96,12 @@ cast-n : tie.Need-cast-n
 cast-n c = search needs
 
 array-share-prefix-held : tie.Need-array-share-prefix-held
-array-share-prefix-held c = omega
-    (arith, cells (c .before .before .before .before .before .before .before .before .before .before .before .before .before), through
-    (c .before .before) .few)
+array-share-prefix-held c = omega (
+  arith,
+  cells (c .before .before .before .before .before .before .before .before .before .before .before .before .before),
+  through
+      (c .before .before) .few,
+)
 
 slice-aggregate-take-piece : tie.Need-slice-aggregate-take-piece
 slice-aggregate-take-piece c = sym (many (c .before .before .before))
@@ -107,7 +110,8 @@ take-piece-requires : tie.Need-take-piece-requires
 take-piece-requires c κs =
     let p = through (c .before .before .before .before) in
     let n = many (c .before .before .before .before) in
-    let l = long-enough (lent (c .before .before .before .before .before .before .before .before .before .before .before .before .before .before .before)) (long (c .before .before .before .before .before .before .before)) in
+    let l = long-enough (lent (c .before .before .before .before .before .before .before .before .before .before .before .before .before
+    .before .before)) (long (c .before .before .before .before .before .before .before)) in
     (omega arith, omega arith, l .0, l .1, omega arith, omega arith)
 
 same-length : tie.Need-same-length
@@ -115,8 +119,14 @@ same-length c = search needs
 
 returns-3 : tie.Need-returns-3
 returns-3 c =
-    let a = c .before .before .before .before .before .before .before .before .before .before .before .before .before .before .before .before .before .before .args in
-    gives-added (lent (c .before .before .before .before .before .before .before .before .before .before .before .before .before .before .before .before .before .before)) (held-by (c .before .before .before .before .before .before .before .before .before .before .before .before .before .before .before .before .before .before)) (now (a .piece)) (now (a .out)) (long (c .before .before .before .before .before .before .before .before .before .before)) (goes (c .before .before .before .before .before .before .before)) (many (c .before .before .before .before .before .before .before)) _ _
+    let a = c .before .before .before .before .before .before .before .before .before .before .before .before .before .before .before
+    .before .before .before .args in
+    gives-added (lent (c .before .before .before .before .before .before .before .before .before .before .before .before .before .before
+    .before .before .before .before)) (held-by (c .before .before .before .before .before .before .before .before .before .before
+    .before .before .before .before .before .before .before .before)) (now (a .piece)) (now (a .out))
+    (long (c .before .before .before .before .before .before .before .before .before .before))
+    (goes (c .before .before .before .before .before .before .before))
+    (many (c .before .before .before .before .before .before .before)) _ _
     (c .before .before .take-piece .ensures (now (a .offsets)) (now (a .blob)))
 
 pub add-spec : {M : Type 1} → statement M

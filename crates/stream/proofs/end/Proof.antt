@@ -64,8 +64,11 @@ bytes s = take (s .args .stream .«held_len») (s .args .stream .held)
 
 many : (c : tie.After-enum-told) → length (bytes (c .before .before .before .before .before .before .before .before .before .before))
     ≡ c .before .before .before .before .before .before .before .before .before .before .args .stream .«held_len»
-many c = length-take-le _ _ (omega (arith, cells (c .before .before .before .before .before .before .before .before .before .before),
-    through c .few))
+many c = length-take-le _ _ (omega (
+  arith,
+  cells (c .before .before .before .before .before .before .before .before .before .before),
+  through c .few,
+))
 
 room : (c : tie.After-enum-told) → length (bytes (c .before .before .before .before .before .before .before .before .before .before)) ≤
     length (now (c .before .before .before .before .before .before .before .before .before .before .args .out))
@@ -74,22 +77,45 @@ room c = omega (arith, many c, through c .room)
 -- what the encoding answers for the held bytes, told as a or as b
 told : (c : tie.After-encode-sequential-bytes) (q : Encoded) → c .encode-sequential-bytes .result ≡ q
     → encoding.answerOf q ≡ encodeOn
-        (lent (c .before .before .before .before .before .before .before .before .before .before .before .before .before .before .before))
-        (length (now (c .before .before .before .before .before .before .before .before .before .before .before .before .before .before .before .args .out))) (bytes (c .before .before .before .before .before .before .before .before .before .before .before .before .before .before .before)) .answer
+    (lent (c .before .before .before .before .before .before .before .before .before .before .before .before .before .before .before))
+    (length (now (c .before .before .before .before .before .before .before .before .before .before .before .before .before .before
+    .before .args .out))) (bytes (c .before .before .before .before .before .before .before .before .before .before .before .before
+    .before .before .before)) .answer
 told c q e = ap encoding.answerOf (sym e) ∙ c .encode-sequential-bytes .ensures .answer
 
 none-told : (c : tie.After-encoded2)
-    → record { number = 22; count = c .encoded2 .given .0 .0; place = c .encoded2 .given .0 .1 .0; value =
-        c .encoded2 .given .0 .1 .1 .0 }
-        ≡ encodeOn (lent (c .before .before .before .before .before .before .before .before .before .before .before .before .before .before .before .before .before .before .before)) (length (now (c .before .before .before .before .before .before .before .before .before .before .before .before .before .before .before .before .before .before .before .args .out))) (bytes (c .before .before .before .before .before .before .before .before .before .before .before .before .before .before .before .before .before .before .before)) .answer
+    → record {
+      number = 22;
+      count = c .encoded2 .given .0 .0;
+      place = c .encoded2 .given .0 .1 .0;
+      value =
+          c .encoded2 .given .0 .1 .1 .0;
+    }
+    ≡ encodeOn (lent (c .before .before .before .before .before .before .before .before .before .before .before .before .before .before
+    .before .before .before .before .before))
+    (length (now (c .before .before .before .before .before .before .before .before .before .before .before .before .before .before
+    .before .before .before .before .before .args .out)))
+    (bytes (c .before .before .before .before .before .before .before .before .before .before .before .before .before .before .before
+    .before .before .before .before)) .answer
 none-told c = told (c .before .before .before .before) _ (c .encoded2 .given .1)
 
 -- where no token matches is a held byte
 within : (c : tie.After-encoded2)
     → c .encoded2 .given .0 .1 .0 <
-    c .before .before .before .before .before .before .before .before .before .before .before .before .before .before .before .before .before .before .before .args .stream .«held_len»
-within c = omega (arith, many (c .before .before .before .before .before .before .before .before .before), says-none
-    (lent (c .before .before .before .before .before .before .before .before .before .before .before .before .before .before .before .before .before .before .before)) (bytes (c .before .before .before .before .before .before .before .before .before .before .before .before .before .before .before .before .before .before .before)) (length (now (c .before .before .before .before .before .before .before .before .before .before .before .before .before .before .before .before .before .before .before .args .out))) (long (c .before .before .before .before .before .before .before .before .before .before .before .before)) (room (c .before .before .before .before .before .before .before .before .before)) _ _ _ (none-told c) .2)
+    c .before .before .before .before .before .before .before .before .before .before .before .before .before .before .before .before
+    .before .before .before .args .stream .«held_len»
+within c = omega (
+  arith,
+  many (c .before .before .before .before .before .before .before .before .before),
+  says-none
+      (lent (c .before .before .before .before .before .before .before .before .before .before .before .before .before .before .before
+      .before .before .before .before)) (bytes (c .before .before .before .before .before .before .before .before .before .before
+      .before .before .before .before .before .before .before .before .before))
+      (length (now (c .before .before .before .before .before .before .before .before .before .before .before .before .before .before
+      .before .before .before .before .before .args .out)))
+      (long (c .before .before .before .before .before .before .before .before .before .before .before .before))
+      (room (c .before .before .before .before .before .before .before .before .before)) _ _ _ (none-told c) .2,
+)
 
 -- neither of the other answers comes
 never : (c : tie.After-encode-sequential-bytes) (q : Encoded) → c .encode-sequential-bytes .result ≡ q
@@ -97,7 +123,9 @@ never : (c : tie.After-encode-sequential-bytes) (q : Encoded) → c .encode-sequ
 never c q e z t = says-other (lent
     (c .before .before .before .before .before .before .before .before .before .before .before .before .before .before .before))
     (bytes (c .before .before .before .before .before .before .before .before .before .before .before .before .before .before .before))
-    (length (now (c .before .before .before .before .before .before .before .before .before .before .before .before .before .before .before .args .out))) (long (c .before .before .before .before .before .before .before .before)) (room (c .before .before .before .before .before)) (encoding.answerOf q) z t (told c q e)
+    (length (now (c .before .before .before .before .before .before .before .before .before .before .before .before .before .before
+    .before .args .out))) (long (c .before .before .before .before .before .before .before .before))
+    (room (c .before .before .before .before .before)) (encoding.answerOf q) z t (told c q e)
 
 too-short-requires : tie.Need-too-short-requires
 too-short-requires c κs = search needs
@@ -118,15 +146,15 @@ enum-known-refusal c = search needs
 returns-2 : tie.Need-returns-2
 returns-2 c =
     gives-refused (lent (c .before .before .before .before .before .before .before .before .before .before .before))
-        (held-by (c .before .before .before .before .before .before .before .before .before .before .before))
-        (called (c .before .before .before .before .before .before .before .before .before .before .before)) _
-        (now (c .before .before .before .before .before .before .before .before .before .before .before .args .out))
-        (long (c .before .before .before .before)) _
+    (held-by (c .before .before .before .before .before .before .before .before .before .before .before))
+    (called (c .before .before .before .before .before .before .before .before .before .before .before)) _
+    (now (c .before .before .before .before .before .before .before .before .before .before .before .args .out))
+    (long (c .before .before .before .before)) _
     (ap refusalOf (sym (c .before .refusal .given .1)) ∙ c .before .before .before .refused-by .ensures []
-        (now (c .before .before .before .before .before .before .before .before .before .before .before .args .out)) refl refl
-        ∙ end-as-add (held-by (c .before .before .before .before .before .before .before .before .before .before .before))
-        (now (c .before .before .before .before .before .before .before .before .before .before .before .args .out))
-        (fits (c .before .before .before .before .before .before .before .before .before .before .before))) refl refl
+    (now (c .before .before .before .before .before .before .before .before .before .before .before .args .out)) refl refl
+    ∙ end-as-add (held-by (c .before .before .before .before .before .before .before .before .before .before .before))
+    (now (c .before .before .before .before .before .before .before .before .before .before .before .args .out))
+    (fits (c .before .before .before .before .before .before .before .before .before .before .before))) refl refl
 
 enum-told : tie.Need-enum-told
 enum-told c = search needs
@@ -141,9 +169,12 @@ sub-start : tie.Need-sub-start
 sub-start c = omega (arith, through (c .before) .held)
 
 array-share-prefix-held : tie.Need-array-share-prefix-held
-array-share-prefix-held c = omega
-    (arith, cells (c .before .before .before .before .before .before .before .before .before .before .before .before), through
-    (c .before .before) .few)
+array-share-prefix-held c = omega (
+  arith,
+  cells (c .before .before .before .before .before .before .before .before .before .before .before .before),
+  through
+      (c .before .before) .few,
+)
 
 slice-aggregate-encode-sequential-bytes : tie.Need-slice-aggregate-encode-sequential-bytes
 slice-aggregate-encode-sequential-bytes c = sym (many (c .before .before .before))
@@ -161,13 +192,23 @@ enum-known-encoded-2 : tie.Need-enum-known-encoded-2
 enum-known-encoded-2 c = search needs
 
 cast-stopped : tie.Need-cast-stopped
-cast-stopped c = omega (arith, within (c .before), through
-    (c .before .before .before .before .before .before .before .before .before .before) .few)
+cast-stopped c = omega (
+  arith,
+  within (c .before),
+  through
+      (c .before .before .before .before .before .before .before .before .before .before) .few,
+)
 
 add-stopped : tie.Need-add-stopped
-add-stopped c = omega (arith, within (c .before), through
-    (c .before .before .before .before .before .before .before .before .before .before) .held, fits
-    (c .before .before .before .before .before .before .before .before .before .before .before .before .before .before .before .before .before .before .before .before))
+add-stopped c = omega (
+  arith,
+  within (c .before),
+  through
+      (c .before .before .before .before .before .before .before .before .before .before) .held,
+  fits
+      (c .before .before .before .before .before .before .before .before .before .before .before .before .before .before .before .before
+      .before .before .before .before),
+)
 
 stopped-requires : tie.Need-stopped-requires
 stopped-requires c κs = search needs
@@ -183,20 +224,46 @@ same-length c = search needs
 
 returns-3 : tie.Need-returns-3
 returns-3 c =
-    gives-closed (lent (c .before .before .before .before .before .before .before .before .before .before .before .before .before .before .before .before .before .before .before .before .before)) (held-by (c .before .before .before .before .before .before .before .before .before .before .before .before .before .before .before .before .before .before .before .before .before)) (now (c .before .before .before .before .before .before .before .before .before .before .before .before .before .before .before .before .before .before .before .before .before .args .out)) _ _ (long (c .before .before .before .before .before .before .before .before .before .before .before .before .before .before)) (goes (c .before .before .before .before .before .before .before .before .before .before .before) ∙ end-as-add (held-by (c .before .before .before .before .before .before .before .before .before .before .before .before .before .before .before .before .before .before .before .before .before)) (now (c .before .before .before .before .before .before .before .before .before .before .before .before .before .before .before .before .before .before .before .before .before .args .out)) (fits (c .before .before .before .before .before .before .before .before .before .before .before .before .before .before .before .before .before .before .before .before .before))) (room (c .before .before .before .before .before .before .before .before .before .before .before))
+    gives-closed (lent (c .before .before .before .before .before .before .before .before .before .before .before .before .before .before
+    .before .before .before .before .before .before .before))
+    (held-by (c .before .before .before .before .before .before .before .before .before .before .before .before .before .before
+    .before .before .before .before .before .before .before))
+    (now (c .before .before .before .before .before .before .before .before .before .before .before .before .before .before .before
+    .before .before .before .before .before .before .args .out)) _ _
+    (long (c .before .before .before .before .before .before .before .before .before .before .before .before .before .before))
+    (goes (c .before .before .before .before .before .before .before .before .before .before .before)
+    ∙ end-as-add (held-by (c .before .before .before .before .before .before .before .before .before .before .before .before .before
+    .before .before .before .before .before .before .before .before))
+    (now (c .before .before .before .before .before .before .before .before .before .before .before .before .before .before .before
+    .before .before .before .before .before .before .args .out))
+    (fits (c .before .before .before .before .before .before .before .before .before .before .before .before .before .before .before
+    .before .before .before .before .before .before)))
+    (room (c .before .before .before .before .before .before .before .before .before .before .before))
     (c .before .before .before .before .before .before .encode-sequential-bytes .ensures .cells) _
-        (told (c .before .before .before .before .before .before) _ (c .before .before .encoded .given .1)) (c .closed .ensures)
+    (told (c .before .before .before .before .before .before) _ (c .before .before .encoded .given .1)) (c .closed .ensures)
 
 same-length-2 : tie.Need-same-length-2
 same-length-2 c = search needs
 
 returns-4 : tie.Need-returns-4
 returns-4 c =
-    gives-stopped (lent (c .before .before .before .before .before .before .before .before .before .before .before .before .before .before .before .before .before .before .before .before .before)) (held-by (c .before .before .before .before .before .before .before .before .before .before .before .before .before .before .before .before .before .before .before .before .before)) (now (c .before .before .before .before .before .before .before .before .before .before .before .before .before .before .before .before .before .before .before .before .before .args .out)) _ _ (long (c .before .before .before .before .before .before .before .before .before .before .before .before .before .before))
+    gives-stopped (lent (c .before .before .before .before .before .before .before .before .before .before .before .before .before .before
+    .before .before .before .before .before .before .before))
+    (held-by (c .before .before .before .before .before .before .before .before .before .before .before .before .before .before
+    .before .before .before .before .before .before .before))
+    (now (c .before .before .before .before .before .before .before .before .before .before .before .before .before .before .before
+    .before .before .before .before .before .before .args .out)) _ _
+    (long (c .before .before .before .before .before .before .before .before .before .before .before .before .before .before))
     (goes (c .before .before .before .before .before .before .before .before .before .before .before)
-        ∙ end-as-add (held-by (c .before .before .before .before .before .before .before .before .before .before .before .before .before .before .before .before .before .before .before .before .before)) (now (c .before .before .before .before .before .before .before .before .before .before .before .before .before .before .before .before .before .before .before .before .before .args .out)) (fits (c .before .before .before .before .before .before .before .before .before .before .before .before .before .before .before .before .before .before .before .before .before))) (room (c .before .before .before .before .before .before .before .before .before .before .before))
+    ∙ end-as-add (held-by (c .before .before .before .before .before .before .before .before .before .before .before .before .before
+    .before .before .before .before .before .before .before .before))
+    (now (c .before .before .before .before .before .before .before .before .before .before .before .before .before .before .before
+    .before .before .before .before .before .before .args .out))
+    (fits (c .before .before .before .before .before .before .before .before .before .before .before .before .before .before .before
+    .before .before .before .before .before .before)))
+    (room (c .before .before .before .before .before .before .before .before .before .before .before))
     (c .before .before .before .before .before .before .encode-sequential-bytes .ensures .cells) _ _ _ _ (none-told (c .before .before))
-        refl (c .stopped .ensures)
+    refl (c .stopped .ensures)
 
 same-length-3 : tie.Need-same-length-3
 same-length-3 c = search needs

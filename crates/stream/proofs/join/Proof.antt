@@ -34,7 +34,7 @@ returns c =
       omega arith,
       ap (take (length (now (a .held)) + k))
           (c .before .before .copy-bytes2 .ensures ∙ ap (λ (w : List ℕ). paste w (length (now (a .held))) (now (a .piece)) k)
-              (c .before .before .before .before .before .before .copy-bytes .ensures))
+          (c .before .before .before .before .before .before .copy-bytes .ensures))
           ∙ joined (now (a .held)) (now (a .piece)) (now (a .window)) (length (now (a .held))) k refl (omega arith) e (omega arith),
     )
 

@@ -16,9 +16,17 @@ cast-t6 c = search needs
 
 returns : tie.Need-returns
 returns c =
-    let a = c .before .before .args in
-    (refl, ap (λ (h : List ℕ). record { phase = 0; total = a .total; heldLen = length (now (a .rest)); held = h; stopOffset = 0;
-        stopByte = 0 }) (c .hold .ensures))
+    let a = c .before .before .args in (
+      refl,
+      ap (λ (h : List ℕ). record {
+        phase = 0;
+        total = a .total;
+        heldLen = length (now (a .rest));
+        held = h;
+        stopOffset = 0;
+        stopByte = 0;
+      }) (c .hold .ensures),
+    )
 
 pub opened-spec : {M : Type 1} → statement M
 opened-spec = tie.close (tie.spec hold-requires cast-t6 returns)

@@ -41,7 +41,7 @@ module _ (c : tie.After-found Inv-loop μ-loop) where
       × (c .found .given .0 .1 .0 ≤ length (now (start .args .src)) - c .before .before .before .before .before .before .loop .i)
   within =
       let w = match-within (lent start [] []) (drop (c .before .before .before .before .before .before .loop .i) (now (start .args .src)))
-          _ _ (matched [] []) in
+      _ _ (matched [] []) in
       let l = length-drop (c .before .before .before .before .before .before .loop .i) (now (start .args .src)) in
       (w .0, omega (arith, w .1))
 
@@ -57,9 +57,9 @@ same-length c = c .before .before .before .loop .inv .0
 returns : tie.Need-returns Inv-loop μ-loop
 returns c offsets blob =
     ends-waiting _ _ _ _ _ _ _ _ _ (c .before .before .before .loop .inv .3 offsets blob) (c .before .before .loop-test .taken)
-        (omega arith)
+    (omega arith)
     (sym (c .before .undecided-at .ensures (now (c .before .before .before .before .before .before .before .before .args .single)) offsets
-        blob) ∙ c .if1 .taken)
+    blob) ∙ c .if1 .taken)
 
 match-at-requires : tie.Need-match-at-requires Inv-loop μ-loop
 match-at-requires c κs = (omega arith, omega arith, omega arith)
@@ -76,10 +76,10 @@ same-length-2 c = c .before .before .before .before .before .before .loop .inv .
 returns-2 : tie.Need-returns-2 Inv-loop μ-loop
 returns-2 c offsets blob =
     ends-stuck _ _ _ _ _ _ _ _ _ (c .before .before .before .before .before .before .loop .inv .3 offsets blob)
-        (c .before .before .before .before .before .loop-test .taken) (omega arith)
+    (c .before .before .before .before .before .loop-test .taken) (omega arith)
     (sym (c .before .before .before .before .undecided-at .ensures
-        (now (c .before .before .before .before .before .before .before .before .before .before .before .args .single)) offsets blob)
-        ∙ c .before .before .before .if1 .left)
+    (now (c .before .before .before .before .before .before .before .before .before .before .before .args .single)) offsets blob)
+    ∙ c .before .before .before .if1 .left)
     (sym (c .before .before .match-at .ensures offsets blob) ∙ ap matchOf (c .enum-told .given .1))
 
 mul-out : tie.Need-mul-out Inv-loop μ-loop
@@ -101,15 +101,15 @@ loop-again : tie.Need-loop-again Inv-loop μ-loop
 loop-again c =
     let w = within (c .before) in
     let l = length-drop (c .before .before .before .before .before .before .before .loop .i)
-        (now (c .before .before .before .before .before .before .before .before .before .before .before .before .args .src)) in (
+    (now (c .before .before .before .before .before .before .before .before .before .before .before .before .args .src)) in (
       simp length-set (c .before .before .before .before .before .before .before .loop .inv .0),
       omega arith,
       omega arith,
       λ offsets blob. stands-next _ _ _ _ _ _ _ _ _ (c .before .before .before .before .before .before .before .loop .inv .3 offsets blob)
           (c .before .before .before .before .before .before .loop-test .taken) (omega arith) _ _
           (sym (c .before .before .before .before .before .undecided-at .ensures
-              (now (c .before .before .before .before .before .before .before .before .before .before .before .before .args .single))
-              offsets blob) ∙ c .before .before .before .before .if1 .left) (matched (c .before) offsets blob) (w .0) (omega arith),
+          (now (c .before .before .before .before .before .before .before .before .before .before .before .before .args .single))
+          offsets blob) ∙ c .before .before .before .before .if1 .left) (matched (c .before) offsets blob) (w .0) (omega arith),
     )
 
 same-length-3 : tie.Need-same-length-3 Inv-loop μ-loop

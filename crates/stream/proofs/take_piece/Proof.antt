@@ -82,13 +82,13 @@ stuck c offsets blob = subst (Gives (c .before .before .before .before) offsets 
 -- the bytes that wait, as a part of the window
 rest : (c : tie.After-ran2)
     → take (c .before .before .before .before .before .before .before .before .join .result - c .ran2 .given .0 .0)
-        (drop (c .ran2 .given .0 .0) (c .before .before .before .before .before .before .before .before .join .last .1 .1 .0))
-        ≡ drop (c .ran2 .given .0 .0) (bytes
-        (c .before .before .before .before .before .before .before .before .before .before .before .before .before .before .before))
+    (drop (c .ran2 .given .0 .0) (c .before .before .before .before .before .before .before .before .join .last .1 .1 .0))
+    ≡ drop (c .ran2 .given .0 .0) (bytes
+    (c .before .before .before .before .before .before .before .before .before .before .before .before .before .before .before))
 rest c =
     part-within (c .before .before .before .before .before .before .before .before .join .last .1 .1 .0) (c .ran2 .given .0 .0)
-        (c .before .before .before .before .before .before .before .before .join .result)
-        (omega (arith, waiting c [] [] .comes .0, joined (c .before .before .before .before .before .before .before .before) .0))
+    (c .before .before .before .before .before .before .before .before .join .result)
+    (omega (arith, waiting c [] [] .comes .0, joined (c .before .before .before .before .before .before .before .before) .0))
     ∙ ap (drop (c .ran2 .given .0 .0)) (c .before .before .before .before .before .before .before .before .join .ensures .1)
 
 cast-all : tie.Need-cast-all
@@ -129,11 +129,13 @@ sub-take-rest c = through (c .before) [] [] .comes .0
 
 take-rest-requires : tie.Need-take-rest-requires
 take-rest-requires c κs =
-    let a = c .before .before .before .before .before .before .before .before .before .before .before .before .before .before .before .before .before .args in
+    let a = c .before .before .before .before .before .before .before .before .before .before .before .before .before .before .before
+    .before .before .args in
     let w = through (c .before .before) [] [] in
     let l = length-append (now (a .held)) (take 254 (now (a .piece))) in
     let t = length-take 254 (now (a .piece)) in
-    let p = c .before .before .before .before .before .before .before .before .before .before .before .before .before .before .before .before .before .pre in
+    let p = c .before .before .before .before .before .before .before .before .before .before .before .before .before .before .before
+    .before .before .pre in
     let o = c .before .before .before .before .before .before .run .kept .1 .1 .1 .1 .1 .1 .0 in
     (omega (arith, w .comes), omega arith, omega arith, omega arith, omega (arith, w .comes, w .count, w .few))
 
@@ -141,12 +143,20 @@ enum-known-ran-2 : tie.Need-enum-known-ran-2
 enum-known-ran-2 c = search needs
 
 sub-opened : tie.Need-sub-opened
-sub-opened c = omega (arith, waiting (c .before) [] [] .comes .0, joined
-    (c .before .before .before .before .before .before .before .before .before) .0)
+sub-opened c = omega (
+  arith,
+  waiting (c .before) [] [] .comes .0,
+  joined
+      (c .before .before .before .before .before .before .before .before .before) .0,
+)
 
 part-opened-start : tie.Need-part-opened-start
-part-opened-start c = omega (arith, waiting (c .before .before) [] [] .comes .0, joined
-    (c .before .before .before .before .before .before .before .before .before .before) .0)
+part-opened-start c = omega (
+  arith,
+  waiting (c .before .before) [] [] .comes .0,
+  joined
+      (c .before .before .before .before .before .before .before .before .before .before) .0,
+)
 
 part-opened-end : tie.Need-part-opened-end
 part-opened-end c = search needs
@@ -155,22 +165,32 @@ opened-requires : tie.Need-opened-requires
 opened-requires c κs =
     let w = waiting (c .before .before .before) [] [] .comes in
     subst (λ (s : List ℕ). length s ≤ 254) (sym (rest (c .before .before .before)))
-        (waits-few (lent (c .before .before .before .before .before .before .before .before .before .before .before .before .before .before .before .before .before .before) [] []) _ (w .1))
+    (waits-few (lent (c .before .before .before .before .before .before .before .before .before .before .before .before .before .before
+    .before .before .before .before) [] []) _ (w .1))
 
 enum-known-ran-3 : tie.Need-enum-known-ran-3
 enum-known-ran-3 c = search needs
 
 cast-stopped : tie.Need-cast-stopped
-cast-stopped c = omega (arith, stuck (c .before) [] [] .comes .0,
-    c .before .before .before .before .before .before .before .before .before .before .before .before .before .before .before .before .pre)
+cast-stopped c = omega (
+  arith,
+  stuck (c .before) [] [] .comes .0,
+  c .before .before .before .before .before .before .before .before .before .before .before .before .before .before .before .before .pre,
+)
 
 add-stopped : tie.Need-add-stopped
-add-stopped c = omega (arith, stuck (c .before) [] [] .comes .0,
-    c .before .before .before .before .before .before .before .before .before .before .before .before .before .before .before .before .pre)
+add-stopped c = omega (
+  arith,
+  stuck (c .before) [] [] .comes .0,
+  c .before .before .before .before .before .before .before .before .before .before .before .before .before .before .before .before .pre,
+)
 
 array-read-stopped : tie.Need-array-read-stopped
-array-read-stopped c = omega (arith, stuck (c .before) [] [] .comes .0,
-    c .before .before .before .before .before .before .before .before .before .before .before .before .before .before .before .before .pre)
+array-read-stopped c = omega (
+  arith,
+  stuck (c .before) [] [] .comes .0,
+  c .before .before .before .before .before .before .before .before .before .before .before .before .before .before .before .before .pre,
+)
 
 stopped-requires : tie.Need-stopped-requires
 stopped-requires c κs = search needs
@@ -180,41 +200,60 @@ same-length c = search needs
 
 returns : tie.Need-returns
 returns c offsets blob =
-    let a = c .before .before .before .before .before .before .before .before .before .before .before .before .before .before .before .before .before .before .before .before .args in
-    held-through (lent (c .before .before .before .before .before .before .before .before .before .before .before .before .before .before .before .before .before .before .before .before) offsets blob) (now (a .held)) (now (a .piece)) (a .total - length (now (a .held))) (a .total) (a .total + length (now (a .piece))) _ _ (now (a .out)) _ _ _
+    let a = c .before .before .before .before .before .before .before .before .before .before .before .before .before .before .before
+    .before .before .before .before .before .args in
+    held-through (lent (c .before .before .before .before .before .before .before .before .before .before .before .before .before .before
+    .before .before .before .before .before .before) offsets blob) (now (a .held)) (now (a .piece))
+    (a .total - length (now (a .held))) (a .total) (a .total + length (now (a .piece))) _ _ (now (a .out)) _ _ _
     (through (c .before .before .before .before .before) offsets blob)
-        (omega (arith, c .before .before .before .before .before .before .before .before .before .before .before .before .before .before .before .before .before .before .before .before .pre)) (λ before b. c .before .before .take-rest .ensures offsets blob before b)
+    (omega (
+      arith,
+      c .before .before .before .before .before .before .before .before .before .before .before .before .before .before
+          .before .before .before .before .before .before .pre,
+    )) (λ before b. c .before .before .take-rest .ensures offsets blob before b)
 
 same-length-2 : tie.Need-same-length-2
 same-length-2 c = search needs
 
 returns-2 : tie.Need-returns-2
 returns-2 c offsets blob =
-    let a = c .before .before .before .before .before .before .before .before .before .before .before .before .before .before .before .before .before .before .before .args in
-    held-waiting (lent (c .before .before .before .before .before .before .before .before .before .before .before .before .before .before .before .before .before .before .before) offsets blob) (now (a .held)) (now (a .piece)) (a .total - length (now (a .held))) (a .total) (a .total + length (now (a .piece))) _ _ (now (a .out)) _ _
-    (waiting (c .before .before .before .before) offsets blob)
-    (c .opened .ensures .0, c .opened .ensures .1 ∙ ap (holding 0 (a .total + length (now (a .piece))))
-        (rest (c .before .before .before .before)))
+    let a = c .before .before .before .before .before .before .before .before .before .before .before .before .before .before .before
+    .before .before .before .before .args in
+    held-waiting (lent (c .before .before .before .before .before .before .before .before .before .before .before .before .before .before
+    .before .before .before .before .before) offsets blob) (now (a .held)) (now (a .piece)) (a .total - length (now (a .held)))
+    (a .total) (a .total + length (now (a .piece))) _ _ (now (a .out)) _ _
+    (waiting (c .before .before .before .before) offsets blob) (
+      c .opened .ensures .0,
+      c .opened .ensures .1 ∙ ap (holding 0 (a .total + length (now (a .piece))))
+          (rest (c .before .before .before .before)),
+    )
 
 same-length-3 : tie.Need-same-length-3
 same-length-3 c = search needs
 
 returns-3 : tie.Need-returns-3
 returns-3 c offsets blob =
-    let a = c .before .before .before .before .before .before .before .before .before .before .before .before .before .before .before .before .before .args in
+    let a = c .before .before .before .before .before .before .before .before .before .before .before .before .before .before .before
+    .before .before .args in
     let at = c .before .before .ran3 .given .0 .0 in
     let p = a .total - length (now (a .held)) + at in
     let w = stuck (c .before .before) offsets blob in
     let b : getD (c .before .before .before .before .before .before .before .before .before .before .join .last .1 .1 .0) at 0
-        ≡ getD (bytes (c .before .before .before .before .before .before .before .before .before .before .before .before .before .before .before .before .before)) at 0 =
+    ≡ getD (bytes (c .before .before .before .before .before .before .before .before .before .before .before .before .before .before
+    .before .before .before)) at 0 =
     sym (getD-take (c .before .before .before .before .before .before .before .before .before .before .join .result)
-        (c .before .before .before .before .before .before .before .before .before .before .join .last .1 .1 .0) at 0
-        (omega (arith, w .comes .0, joined (c .before .before .before .before .before .before .before .before .before .before) .0)))
-        ∙ ap (λ (s : List ℕ). getD s at 0)
-        (c .before .before .before .before .before .before .before .before .before .before .join .ensures .1) in
-    held-stuck (lent (c .before .before .before .before .before .before .before .before .before .before .before .before .before .before .before .before .before) offsets blob) (now (a .held)) (now (a .piece)) (a .total - length (now (a .held))) (a .total) (a .total + length (now (a .piece))) _ _ (now (a .out)) _ _
-    w (c .stopped .ensures .0 ∙ ap (Stopped (c .before .before .ran3 .given .0 .1 .0) p) b, c .stopped .ensures .1
-        ∙ ap (stoppedAt (a .total + length (now (a .piece))) p) b)
+    (c .before .before .before .before .before .before .before .before .before .before .join .last .1 .1 .0) at 0
+    (omega (arith, w .comes .0, joined (c .before .before .before .before .before .before .before .before .before .before) .0)))
+    ∙ ap (λ (s : List ℕ). getD s at 0)
+    (c .before .before .before .before .before .before .before .before .before .before .join .ensures .1) in
+    held-stuck (lent (c .before .before .before .before .before .before .before .before .before .before .before .before .before .before
+    .before .before .before) offsets blob) (now (a .held)) (now (a .piece)) (a .total - length (now (a .held))) (a .total)
+    (a .total + length (now (a .piece))) _ _ (now (a .out)) _ _
+    w (
+      c .stopped .ensures .0 ∙ ap (Stopped (c .before .before .ran3 .given .0 .1 .0) p) b,
+      c .stopped .ensures .1
+          ∙ ap (stoppedAt (a .total + length (now (a .piece))) p) b,
+    )
 
 pub take-piece-spec : {M : Type 1} → statement M
 take-piece-spec =

@@ -24,11 +24,11 @@ lent s offsets blob = memory (now (s .args .single)) offsets blob (now (s .args 
 abbrev Gives : tie.After-run → List ℕ → List ℕ → Ran → Type 0
 Gives c offsets blob r =
     RunsTo (lent (c .before .before .before .before .before .before) offsets blob)
-        (now (c .before .before .before .before .before .before .args .piece))
-        (c .before .before .before .before .before .before .args .from)
-        (length (now (c .before .before .before .before .before .before .args .piece)))
-        (c .before .before .before .before .before .before .args .count)
-        (now (c .before .before .before .before .before .before .args .out)) (c .run .last .1 .1 .1 .1 .1 .1 .0) r
+    (now (c .before .before .before .before .before .before .args .piece))
+    (c .before .before .before .before .before .before .args .from)
+    (length (now (c .before .before .before .before .before .before .args .piece)))
+    (c .before .before .before .before .before .before .args .count)
+    (now (c .before .before .before .before .before .before .args .out)) (c .run .last .1 .1 .1 .1 .1 .1 .0) r
 
 -- in each case
 through : (c : tie.After-ran) (offsets blob : List ℕ) → Gives (c .before .before .before .before) offsets blob
@@ -70,9 +70,10 @@ part-opened-end c = search needs
 opened-requires : tie.Need-opened-requires
 opened-requires c κs =
     let w = through (c .before .before) [] [] .comes in
-    let p = part-end (now (c .before .before .before .before .before .before .before .before .before .before .before .before .args .piece)) (c .before .before .ran .given .0 .0) in
+    let p = part-end (now (c .before .before .before .before .before .before .before .before .before .before .before .before .args
+    .piece)) (c .before .before .ran .given .0 .0) in
     let d = length-drop (c .before .before .ran .given .0 .0)
-        (now (c .before .before .before .before .before .before .before .before .before .before .before .before .args .piece)) in
+    (now (c .before .before .before .before .before .before .before .before .before .before .before .before .args .piece)) in
     omega (arith, w .0, ap length p)
 
 enum-known-ran-2 : tie.Need-enum-known-ran-2
@@ -90,10 +91,11 @@ part-opened-end-2 c = search needs
 opened-requires-2 : tie.Need-opened-requires-2
 opened-requires-2 c κs =
     let w = waits-few (lent (c .before .before .before .before .before .before .before .before .before .before .before .before) [] [])
-        (drop (c .before .before .ran2 .given .0 .0)
-        (now (c .before .before .before .before .before .before .before .before .before .before .before .before .args .piece)))
-        (waiting (c .before .before) [] [] .comes .1) in
-    let p = part-end (now (c .before .before .before .before .before .before .before .before .before .before .before .before .args .piece)) (c .before .before .ran2 .given .0 .0) in
+    (drop (c .before .before .ran2 .given .0 .0)
+    (now (c .before .before .before .before .before .before .before .before .before .before .before .before .args .piece)))
+    (waiting (c .before .before) [] [] .comes .1) in
+    let p = part-end (now (c .before .before .before .before .before .before .before .before .before .before .before .before .args
+    .piece)) (c .before .before .ran2 .given .0 .0) in
     omega (arith, ap length p)
 
 enum-known-ran-3 : tie.Need-enum-known-ran-3
@@ -118,10 +120,12 @@ returns : tie.Need-returns
 returns c offsets blob before b =
     let a = c .before .before .before .before .before .before .before .before .before .before .before .before .before .args in
     rest-through (lent (c .before .before .before .before .before .before .before .before .before .before .before .before .before) offsets
-        blob) (now (a .piece)) (a .from) (a .count) (a .total) (a .total + length (now (a .piece))) _ _ before _ _ _ b
-    (through (c .before .before .before) offsets blob)
-    (c .opened .ensures .0, c .opened .ensures .1 ∙ ap (holding 0 (a .total + length (now (a .piece))))
-        (part-end (now (a .piece)) (c .before .before .before .ran .given .0 .0)))
+    blob) (now (a .piece)) (a .from) (a .count) (a .total) (a .total + length (now (a .piece))) _ _ before _ _ _ b
+    (through (c .before .before .before) offsets blob) (
+      c .opened .ensures .0,
+      c .opened .ensures .1 ∙ ap (holding 0 (a .total + length (now (a .piece))))
+          (part-end (now (a .piece)) (c .before .before .before .ran .given .0 .0)),
+    )
 
 same-length-2 : tie.Need-same-length-2
 same-length-2 c = search needs
@@ -130,10 +134,12 @@ returns-2 : tie.Need-returns-2
 returns-2 c offsets blob before b =
     let a = c .before .before .before .before .before .before .before .before .before .before .before .before .before .args in
     rest-waiting (lent (c .before .before .before .before .before .before .before .before .before .before .before .before .before) offsets
-        blob) (now (a .piece)) (a .from) (a .count) (a .total) (a .total + length (now (a .piece))) _ _ before _ _ _ b
-    (waiting (c .before .before .before) offsets blob)
-    (c .opened2 .ensures .0, c .opened2 .ensures .1 ∙ ap (holding 0 (a .total + length (now (a .piece))))
-        (part-end (now (a .piece)) (c .before .before .before .ran2 .given .0 .0)))
+    blob) (now (a .piece)) (a .from) (a .count) (a .total) (a .total + length (now (a .piece))) _ _ before _ _ _ b
+    (waiting (c .before .before .before) offsets blob) (
+      c .opened2 .ensures .0,
+      c .opened2 .ensures .1 ∙ ap (holding 0 (a .total + length (now (a .piece))))
+          (part-end (now (a .piece)) (c .before .before .before .ran2 .given .0 .0)),
+    )
 
 same-length-3 : tie.Need-same-length-3
 same-length-3 c = search needs
@@ -142,7 +148,7 @@ returns-3 : tie.Need-returns-3
 returns-3 c offsets blob before b =
     let a = c .before .before .before .before .before .before .before .before .before .before .before .before .before .args in
     rest-stuck (lent (c .before .before .before .before .before .before .before .before .before .before .before .before .before) offsets
-        blob) (now (a .piece)) (a .from) (a .count) (a .total) (a .total + length (now (a .piece))) _ _ before _ _ _ b
+    blob) (now (a .piece)) (a .from) (a .count) (a .total) (a .total + length (now (a .piece))) _ _ before _ _ _ b
     (stuck (c .before .before .before) offsets blob) (c .stopped .ensures)
 
 pub take-rest-spec : {M : Type 1} → statement M

@@ -38,14 +38,14 @@ returns-3 c single offsets blob =
     let a = c .before .before .before .before .before .before .before .before .args in
     at-unused (memory single offsets blob (now (a .roots)) (now (a .table))) (now (a .src)) (a .i) (omega arith)
     (walkOf (c .before .before .walk-at .result)) (c .before .before .walk-at .ensures single offsets blob)
-        (c .before .before .before .if2 .left) (c .if3 .taken)
+    (c .before .before .before .if2 .left) (c .if3 .taken)
 
 returns-4 : tie.Need-returns-4
 returns-4 c single offsets blob =
     let a = c .before .before .before .before .before .before .before .before .before .args in
     at-used (memory single offsets blob (now (a .roots)) (now (a .table))) (now (a .src)) (a .i) (omega arith)
     (walkOf (c .before .before .before .walk-at .result)) (c .before .before .before .walk-at .ensures single offsets blob)
-        (c .before .before .before .before .if2 .left) (c .before .if3 .left) (omega arith)
+    (c .before .before .before .before .if2 .left) (c .before .if3 .left) (omega arith)
 
 pub undecided-at-spec : {M : Type 1} → statement M
 undecided-at-spec =

@@ -38,9 +38,12 @@ loop-again c =
     let l = c .before .loop in
     let p : l .k ≡ 0 + l .k = omega arith in
     let left : List ℤ = drop (l .k + 1) (replicate (c .before .before .args .n) (negsuc 0)) in
-    let e = ap (λ (x : ℕ). sets (set (l .cells) x (negsuc 0)) (0 + (l .k + 1)) left) p in
-    (omega arith, simp length-set (l .inv .1), e ∙ fill-goes (l .cells) 0 (c .before .before .args .n) (l .k) (negsuc 0) (pos 0)
-        (c .loop-test .taken) ∙ l .inv .2)
+    let e = ap (λ (x : ℕ). sets (set (l .cells) x (negsuc 0)) (0 + (l .k + 1)) left) p in (
+      omega arith,
+      simp length-set (l .inv .1),
+      e ∙ fill-goes (l .cells) 0 (c .before .before .args .n) (l .k) (negsuc 0) (pos 0)
+          (c .loop-test .taken) ∙ l .inv .2,
+    )
 
 same-length : tie.Need-same-length Inv-loop μ-loop
 same-length c = c .before .loop .inv .1

@@ -34,9 +34,12 @@ loop-less c = omega arith
 loop-again : tie.Need-loop-again Inv-loop μ-loop
 loop-again c =
     let a = c .before .before .args in
-    let v = c .before .loop .inv in
-    (omega arith, simp length-set (v .1), fill-goes (c .before .loop .cells) (a .from) (a .n) (c .before .loop .k) (a .value) 0
-        (c .loop-test .taken) ∙ v .2)
+    let v = c .before .loop .inv in (
+      omega arith,
+      simp length-set (v .1),
+      fill-goes (c .before .loop .cells) (a .from) (a .n) (c .before .loop .k) (a .value) 0
+          (c .loop-test .taken) ∙ v .2,
+    )
 
 same-length : tie.Need-same-length Inv-loop μ-loop
 same-length c = c .before .loop .inv .1

@@ -81,7 +81,8 @@ returns-2 c =
     .before .before .before .before .before .pre in (
       (λ L xs q high el G. stands-at L xs q _ _ _ _ high _ G (p .0) _ el (p .2) _
           (c .before .before .before .before .before .before .before .before .before .before .before .before .before .before .start-of
-          .ensures) _ _ _ (c .before .before .before .before .before .before .before .before .before .before .before .place-one .ensures .0) _
+          .ensures) _ _ _ (c .before .before .before .before .before .before .before .before .before .before .before .place-one .ensures
+          .0) _
           (c .before .before .before .before .before .base .given .1) (p .1) _ (c .before .before .remember .ensures)),
       subst (Below (c .before .before .before .before .before .before .before .before .before .before .before .before .before .before
           .before .before .before .before .before .before .args .end * 64)) (c .before .before .before .before .before .base .given .1)

@@ -1,3 +1,4 @@
+-- `rwkv_tokenizer::decode::numbered` meets its contract. Assumes nothing.
 use borrow.Author.Needs.{needs}
 use mathlib.Core.Path.{sym, ap}
 use Rattle.decoding.specs.Answers.{answerOf}

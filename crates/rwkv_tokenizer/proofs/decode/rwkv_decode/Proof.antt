@@ -1,3 +1,4 @@
+-- `rwkv_tokenizer::decode::rwkv_decode` meets its contract. Assumes nothing.
 use borrow.Author.Needs.{needs}
 use mathlib.Core.Path.{ap, _∙_}
 use Rattle.spec.specs.Answer.{Answer}

@@ -1,3 +1,4 @@
+-- `rwkv_tokenizer::decode::rwkv_decode_lossy` meets its contract. Assumes nothing.
 use borrow.Author.Needs.{needs}
 use mathlib.Core.Path.{ap, _∙_}
 use Rattle.spec.specs.Answer.{Answer}

@@ -65,9 +65,31 @@ use Rattle.rwkv_tokenizer.proofs.lent.rwkv_add.Statement as stated
 use Rattle.rwkv_tokenizer.proofs.lent.rwkv_add.Code as code
 
 abbrev stayed : Stays (f.ended .signature .params) (f.ended .kept)
-stayed = (gone 0 tt i32, (gone 1 tt u32, (gone 2 tt u8, (gone 3 tt u64, (gone 4 tt u64,
-    (stay-ref (5 ∷ []) tt (plain (λ _. R)), (gone 6 tt u8, (gave-slice (7 ∷ []) tt (plain (λ _. u32)),
-    (gave-ref (8 ∷ []) tt Report, tt)))))))))
+stayed = (
+  gone 0 tt i32,
+  (
+    gone 1 tt u32,
+    (
+      gone 2 tt u8,
+      (
+        gone 3 tt u64,
+        (
+          gone 4 tt u64,
+          (
+            stay-ref (5 ∷ []) tt (plain (λ _. R)),
+            (
+              gone 6 tt u8,
+              (
+                gave-slice (7 ∷ []) tt (plain (λ _. u32)),
+                (gave-ref (8 ∷ []) tt Report, tt),
+              ),
+            ),
+          ),
+        ),
+      ),
+    ),
+  ),
+)
 
 -- the machine values of what is lent
 abbrev spelled : (κs : Lfts 9) → Spells (typesAt (f.signature .params) κs)
@@ -128,7 +150,7 @@ module _ {M : Type 1} (𝓤 : URA M) (H : Heap 𝓤) (A : Atoms 𝓤) (W : Given
   abbrev Back : List ℕ → List ℕ → List (Item 𝓤) → List (Item 𝓤)
   Back cells report Γ =
       ‵ (finally u32 (out κs a .name) cells) ∷ ‵ (fres (a .1 .1 .1 .1 .1 .1 .1 .1 .0 .name) (Rep .coded .code report))
-          ∷ tokens 8 (κs′ κs a) qs′ ∷ Γ
+      ∷ tokens 8 (κs′ κs a) qs′ ∷ Γ
 
   module _ {K : Type 0} {Γ : List (Item 𝓤)} {G : Goal 𝓤 H} where
     got : K → Soaks G → (v : Val)
@@ -167,8 +189,31 @@ module _ {M : Type 1} (𝓤 : URA M) (H : Heap 𝓤) (A : Atoms 𝓤) (W : Given
         → Says κs a (r .number) report (r .stream) cells → ent 𝓤 (⋆ 𝓤 H A Had) (Post (vint w32 (r .number)))
     exits is len e =
         qed W Had ∵ suffices ! _ (ends-at 𝓤 H A f.ended stayed (f.clauses 𝓤 H A at-mem run) W bound (vint w32 (r .number)) (r .number)
-        (tt, (tt, (tt, (tt, (tt, (r .stream, (tt, (cells, (report, tt))))))))) (tt, (tt, (tt, (tt, (tt, (tt, (tt, (len,
-        (tt, tt)))))))))) $ says ! e $
+        (tt, (tt, (tt, (tt, (tt, (r .stream, (tt, (cells, (report, tt))))))))) (
+          tt,
+          (
+            tt,
+            (
+              tt,
+              (
+                tt,
+                (
+                  tt,
+                  (
+                    tt,
+                    (
+                      tt,
+                      (
+                        len,
+                        (tt, tt),
+                      ),
+                    ),
+                  ),
+                ),
+              ),
+            ),
+          ),
+        )) $ says ! e $
         -- the tokens, with the stream's
         move ! (5 ∷ []) $ split ! $ move ! (1 ∷ []) $ split ! $ move ! (1 ∷ []) $ split ! $ move ! (1 ∷ []) $ split ! $ move ! (1 ∷ []) $
         split ! $
@@ -262,15 +307,47 @@ module _ {M : Type 1} (𝓤 : URA M) (H : Heap 𝓤) (A : Atoms 𝓤) (W : Given
       → Triple 𝓤 (C #callee) (tripleOf 𝓤 H A callee.signature (callee.spec 𝓤 H A at-mem run))
       → Walks 𝓤 H A f.ended stayed (WpFn 𝓤 H C Λ code.function) (f.clauses 𝓤 H A at-mem run)
   walks C Λ fm met = walked 𝓤 H A f.ended stayed (f.clauses 𝓤 H A at-mem run) (WpFn 𝓤 H C Λ code.function)
-      spelled (λ κs. (λ x vs p. p .0 .0, (λ x vs p. p .0 .0, (λ x vs p. p .0 .0, (λ x vs p. p .0 .0, (λ x vs p. p .0 .0,
-          (λ x vs p. p .0, (λ x vs p. p .0 .0, (λ x vs p. p .0 .0, (λ x vs p. p .0, tt))))))))))
+      spelled (λ κs. (
+        λ x vs p. p .0 .0,
+        (
+          λ x vs p. p .0 .0,
+          (
+            λ x vs p. p .0 .0,
+            (
+              λ x vs p. p .0 .0,
+              (
+                λ x vs p. p .0 .0,
+                (λ x vs p. p .0, (λ x vs p. p .0 .0, (λ x vs p. p .0 .0, (λ x vs p. p .0, tt)))),
+              ),
+            ),
+          ),
+        ),
+      ))
       (λ κs qs bounds a g are. via 𝓤 _ (fst∗ 𝓤 _ (emp 𝓤)) (walk 𝓤 H A W at-mem run κs qs a are C Λ fm met))
 
   goes : AllGo 𝓤 H A W 9 (f.signature .params) (f.ended .kept) stayed
-  goes = (goes-gone 𝓤 H A W 9 0 tt i32, (goes-gone 𝓤 H A W 9 1 tt u32, (goes-gone 𝓤 H A W 9 2 tt u8,
-      (goes-gone 𝓤 H A W 9 3 tt u64, (goes-gone 𝓤 H A W 9 4 tt u64,
-      (goes-ref 𝓤 H A W 9 5 tt (plain (λ _. R)), (goes-gone 𝓤 H A W 9 6 tt u8,
-      (goes-gave-slice 𝓤 H A W 9 7 tt (plain (λ _. u32)), (goes-gave-ref 𝓤 H A W 9 8 tt Report, tt)))))))))
+  goes = (
+    goes-gone 𝓤 H A W 9 0 tt i32,
+    (
+      goes-gone 𝓤 H A W 9 1 tt u32,
+      (
+        goes-gone 𝓤 H A W 9 2 tt u8,
+        (
+          goes-gone 𝓤 H A W 9 3 tt u64,
+          (
+            goes-gone 𝓤 H A W 9 4 tt u64,
+            (
+              goes-ref 𝓤 H A W 9 5 tt (plain (λ _. R)),
+              (
+                goes-gone 𝓤 H A W 9 6 tt u8,
+                (goes-gave-slice 𝓤 H A W 9 7 tt (plain (λ _. u32)), (goes-gave-ref 𝓤 H A W 9 8 tt Report, tt)),
+              ),
+            ),
+          ),
+        ),
+      ),
+    ),
+  )
 
 pub rwkv-add-spec : {M : Type 1} → stated.statement M
 unfolding code.routine tablesOf

@@ -1,0 +1,2 @@
+-- What the walk of `rwkv_load` uses.
+mod Calls
