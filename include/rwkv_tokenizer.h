@@ -58,7 +58,7 @@ extern "C" {
 #define RWKV_OFFSETS 65537
 #define RWKV_ROOTS 65536
 
-/* A trie node of the work memory. What it holds before and after a load is anything. */
+/* A trie node, for the work memory of a load. Nothing is asked of what it holds, and after a load it may hold anything. */
 typedef struct {
     uint32_t head, tail, next;
     uint16_t term, count;

@@ -127,23 +127,27 @@ impl RwkvTokenizer {
 
     /// Joins the tokens' bytes; fails on an id without a token.
     pub fn decode_bytes(&self, tokens: &[u32]) -> Result<Vec<u8>, DecodeError> {
-        self.decode(ffi::Decoding::Bytes, tokens)
+        self.decode(ffi::Decoding::Bytes, tokens, 6 * tokens.len())
     }
 
     /// Decodes to text; fails on an id without a token and on bytes that are not UTF-8.
     pub fn decode_utf8(&self, tokens: &[u32]) -> Result<String, DecodeError> {
-        self.decode(ffi::Decoding::Text, tokens).map(text_of)
+        self.decode(ffi::Decoding::Text, tokens, 6 * tokens.len()).map(text_of)
     }
 
-    /// Decodes to text with U+FFFD for each ill-formed part; fails only on an id without a token.
+    /// Decodes to text with U+FFFD for each ill-formed part; fails only on an id without a token. What is UTF-8 is its own lossy
+    /// text, and found faster as such; otherwise a byte becomes three at most.
     pub fn decode_lossy(&self, tokens: &[u32]) -> Result<String, DecodeError> {
-        self.decode(ffi::Decoding::Lossy, tokens).map(text_of)
+        match self.decode_utf8(tokens) {
+            Err(DecodeError::InvalidUtf8(e)) => self.decode(ffi::Decoding::Lossy, tokens, 3 * e.as_bytes().len()).map(text_of),
+            text => text,
+        }
     }
 
-    /// Decodes with room for six bytes a token, and with more where the library says that this is too little: bytes then go on
+    /// Decodes with room for so many bytes, and with more where the library says that this is too little: bytes then go on
     /// where they stopped, and text, which is looked at as a whole, starts anew.
-    fn decode(&self, how: ffi::Decoding, tokens: &[u32]) -> Result<Vec<u8>, DecodeError> {
-        let mut out = vec![0; 6 * tokens.len()];
+    fn decode(&self, how: ffi::Decoding, tokens: &[u32], room: usize) -> Result<Vec<u8>, DecodeError> {
+        let mut out = vec![0; room];
         let (mut done, mut len) = (0, 0);
         loop {
             let (number, [more, index, id]) = ffi::decode(self.memory(), how, &tokens[done..], &mut out[len..]);
