@@ -13,7 +13,7 @@ use mathlib.Core.List.{
   List·Memᴰ·tail as there,
   List·Memᴰ·not-nil as not-nil,
 }
-use Prim.Native.Nat.{ℕ, zero, suc, _+_, _-_, _*_, _^_, _≤_, _<_, min}
+use Prim.Native.Nat.{ℕ, zero, suc, _+_, _-_, _^_, _≤_, _<_, min}
 use native.Mathlib.Omega.{arith}
 use lib.IntN.{ℤ, pos}
 use lib.Dec.{eqb, ltb, leb}
@@ -34,7 +34,6 @@ use Rattle.laws.specs.Spans.{before-all}
 use Rattle.laws.specs.Bounds.{nodeCount-small}
 use Rattle.loading.specs.Accepted.{Reads, valid-snoc}
 use Rattle.trie.specs.Run.{Nodes, room}
-use Rattle.trie.specs.Insertion.{State, rooted, after, After, insertOn, rootMade}
 use Rattle.trie.specs.Turns.{yes-case, no-case}
 use Rattle.trie.specs.Stands.{Stands, Grown, answerFor}
 use Rattle.trie.specs.Grow.{seen-id, stands-one, nodes-one}

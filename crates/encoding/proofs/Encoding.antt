@@ -1,18 +1,18 @@
 -- Whole encoding, one token at a time: what stands in the output before each position, and what an end there answers. Assumes nothing.
-use mathlib.Core.Path.{_≡_, refl, sym, ap, ap₂, _∙_, subst}
+use mathlib.Core.Path.{_≡_, refl, sym, ap, _∙_}
 use mathlib.Core.Bool.{Bool, true, false, _||_, true≢false}
 use mathlib.Core.List.{List, [], _∷_, _++_, append-nil, append-assoc}
 use Prim.Native.Nat.{ℕ, zero, suc, pred, _+_, _-_, _≤_, _<_}
 use native.Mathlib.Omega.{arith}
-use native.Mathlib.Nat.{add-zero, add-suc, suc-add}
+use native.Mathlib.Nat.{add-zero}
 use native.Mathlib.Numerals.{add-one}
 use lib.Dec.{ltb}
 use lib.ListN.{length, take, drop, set, getD, length-drop, length-set, drop-of-length-le, take-append-drop}
-use lib.Seq.{drop-cons, drop-nil, drop-drop, drop-set-lt, take-suc-set, length-take-le}
+use lib.Seq.{drop-cons, drop-drop, drop-set-lt, take-suc-set, length-take-le}
 use borrow.Author.Tests.{ltb-false}
 use Rattle.spec.specs.Lists.{over}
 use Rattle.spec.specs.Memory.{Memory, tooShort}
-use Rattle.spec.specs.Match.{Match, nothing, found, matchOn}
+use Rattle.spec.specs.Match.{nothing, found, matchOn}
 use Rattle.spec.specs.Encode.{EncodeEnd, complete, unmatched, full, Encoding, encoded, encodeAt, encoding, encodeAnswer, encodeOn}
 use Rattle.encoding.specs.declared.Encoded.{Encoded}
 use Rattle.encoding.specs.declared.Encoded.the-variants.{ShortMemory}

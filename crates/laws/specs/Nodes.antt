@@ -1,7 +1,7 @@
 -- The nodes are the prefixes of two or more bytes of the tokens. Assumes nothing.
 use mathlib.Core.Path.{_≡_, refl, sym, ap, ap₂, _∙_, subst}
 use mathlib.Core.Logic.{_⊎_, inl, inr}
-use mathlib.Core.Bool.{Bool, true, false, _&&_, _||_, cond, and-false, and-true, or-false}
+use mathlib.Core.Bool.{Bool, true, false, _&&_, cond, and-false, and-true, or-false, _||_}
 use mathlib.Core.List.{List, [], _∷_, _++_, append-nil, append-assoc, List·Memᴰ as Mem, List·Memᴰ·head as here, List·Memᴰ·tail as there}
 use mathlib.Core.List.{List·Memᴰ·cases-cons as cases-cons, List·Memᴰ·not-nil as not-nil, List·Memᴰ·append-cases as append-cases}
 use mathlib.Core.List.{List·Memᴰ·eq-of-singleton as eq-of-singleton, Memᴰ·append-left as mem-left, Memᴰ·append-right as mem-right}

@@ -1,14 +1,14 @@
 -- The fields of a line, a law for each answer. Assumes nothing.
-use mathlib.Core.Path.{_≡_, refl, sym, ap, _∙_}
+use mathlib.Core.Path.{_≡_, refl}
 use mathlib.Core.Bool.{Bool, true, false, _&&_}
-use mathlib.Core.Option.{Option, none, some}
+use mathlib.Core.Option.{none, some}
 use mathlib.Core.List.{List}
 use Prim.Native.Nat.{ℕ, suc, _+_, _≤_, _<_}
 use native.Mathlib.Omega.{arith}
 use lib.ListN.{length}
 use lib.Dec.{ltb}
 use borrow.Author.Tests.{lt-ltb, le-ltb}
-use Rattle.spec.specs.Check.{Check, pass, refuse, given, need}
+use Rattle.spec.specs.Check.{pass, refuse, given, need}
 use Rattle.spec.specs.Utf8.{blank}
 use Rattle.spec.specs.Line.{firstSpace, lastSpace, parted, placed, fields}
 

@@ -1,19 +1,17 @@
 -- One turn of the walk over a text, read from a place of it. Assumes nothing.
 use mathlib.Core.Path.{_≡_, refl, sym, ap, ap₂, _∙_}
-use mathlib.Core.Bool.{Bool, true, false, cond}
-use mathlib.Core.Option.{Option, none, some}
+use mathlib.Core.Option.{some}
 use mathlib.Core.List.{List, [], _∷_}
-use Prim.Native.Nat.{ℕ, zero, suc, _+_, _-_, _≤_, _<_}
+use Prim.Native.Nat.{ℕ, suc, _+_, _-_, _≤_, _<_}
 use native.Mathlib.Nat.{add-zero}
 use native.Mathlib.Numerals.{add-one}
 use native.Mathlib.Omega.{arith}
 use lib.ListN.{length, take, drop, getD, length-take, length-drop, drop-of-length-le}
 use lib.Seq.{drop-cons, getD-take, getD-drop, length-take-le, take-all, take-take}
-use lib.Dec.{eqb, ltb}
 use borrow.Author.Tests.{eq-eqb, ne-eqb, lt-ltb, le-ltb}
 use Rattle.line.specs.declared.NextLine.the-variants.{Line, Nothing}
 use Rattle.line.specs.Answers.{lineAt}
-use Rattle.spec.specs.Line.{lf, cr, First, lessCR, withLF, withoutLF, beforeLF, firstLine, nextLine, lessCR-le, lessCR-take, beforeLF-le}
+use Rattle.spec.specs.Line.{lf, cr, lessCR, beforeLF, firstLine, nextLine, lessCR-le, lessCR-take, beforeLF-le}
 
 -- ── The first LF ─────────────────────────────────────────────────────
 

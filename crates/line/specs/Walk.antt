@@ -1,14 +1,13 @@
 -- A walk over a text by `next_line` gives the lines of the text: each answer is the first of the lines that are left, and the walk goes
 -- on with the others. Assumes nothing.
-use mathlib.Core.Path.{_≡_, refl, sym, ap, _∙_}
+use mathlib.Core.Path.{_≡_, refl, ap, _∙_}
 use mathlib.Core.Option.{Option, none, some}
 use mathlib.Core.List.{List, [], _∷_}
 use Prim.Native.Nat.{ℕ, _+_, _-_, _≤_, _<_}
 use native.Mathlib.Omega.{arith}
 use lib.ListN.{length, take, drop, length-drop}
 use lib.Seq.{drop-drop}
-use Rattle.spec.specs.Line.{First, lines, nextLine, turn, lines-next, Stays, nextLine-stays}
-use Rattle.line.specs.declared.NextLine.{NextLine}
+use Rattle.spec.specs.Line.{First, lines, nextLine, turn, lines-next, nextLine-stays}
 use Rattle.line.specs.declared.NextLine.the-variants.{Line, Nothing}
 use Rattle.line.specs.Answers.{lineAt}
 

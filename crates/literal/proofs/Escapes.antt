@@ -1,17 +1,17 @@
 -- One step inside the quotes, a law for each answer. Assumes nothing.
-use mathlib.Core.Path.{_≡_, refl, sym, ap, _∙_}
+use mathlib.Core.Path.{_≡_, refl, ap, _∙_}
 use mathlib.Core.Logic.{_⊎_, inl, inr}
-use mathlib.Core.Bool.{Bool, true, false, _&&_, _||_, cond}
+use mathlib.Core.Bool.{Bool, true, false, cond}
 use mathlib.Core.Option.{Option, none, some, bind}
 use mathlib.Core.List.{List, [], _∷_}
-use Prim.Native.Nat.{ℕ, zero, suc, _≤_, _<_}
+use Prim.Native.Nat.{ℕ, _≤_, _<_}
 use native.Mathlib.Omega.{arith}
 use lib.ListN.{length, drop, getD}
-use lib.Dec.{eqb, leb}
+use lib.Dec.{eqb}
 use borrow.Author.Tests.{eq-eqb, ne-eqb, le-leb, lt-leb}
-use Rattle.spec.specs.Utf8.{Range, _to_, within, utf8Of}
+use Rattle.spec.specs.Utf8.{utf8Of}
 use Rattle.spec.specs.Digits.{hexRun}
-use Rattle.spec.specs.Literal.{Piece, letters, lookUp, escaped, byteEscape, pointEscape, escape, plain, pieceAt}
+use Rattle.spec.specs.Literal.{Piece, letters, lookUp, escaped, byteEscape, pointEscape, escape, pieceAt}
 use Rattle.literal.proofs.Numbers.{in-range, below-range, above-range}
 
 module _ (inB : Bool) (s : List ℕ) where

@@ -1,5 +1,5 @@
 -- Numbers in digits, read from a place of a list: one law for each way a turn of a reader can go. Assumes nothing.
-use mathlib.Core.Path.{_≡_, refl, sym, ap, ap₂, _∙_}
+use mathlib.Core.Path.{_≡_, refl, ap, ap₂, _∙_}
 use mathlib.Core.Bool.{Bool, true, false, _&&_, cond, false≢true}
 use mathlib.Core.Option.{Option, none, some, bind, Option·none-ne-some, Option·some-injective}
 use mathlib.Core.List.{List, [], _∷_}
@@ -11,7 +11,7 @@ use lib.ListN.{length, take, drop, getD, length-drop, drop-of-length-le}
 use lib.Seq.{drop-cons, take-all}
 use lib.Dec.{leb}
 use borrow.Author.Tests.{le-leb, lt-leb, leb-true}
-use Rattle.spec.specs.Utf8.{Range, _to_, within}
+use Rattle.spec.specs.Utf8.{_to_, within}
 use Rattle.spec.specs.Digits.{digit, digitsAfter, atMost, digits, hexDigit, hexAfter}
 
 -- ── Parts ────────────────────────────────────────────────────────────

@@ -3,19 +3,19 @@ use mathlib.Core.Path.{_≡_, refl, sym, ap, ap₂, _∙_, fun-ext, subst}
 use mathlib.Core.Logic.{_⊎_, inl, inr}
 use mathlib.Core.Bool.{Bool, true, false, _&&_, _||_, cond}
 use mathlib.Core.Option.{Option, none, some, bind, Option·map}
-use mathlib.Core.List.{List, [], _∷_, _++_, append-nil}
-use Prim.Native.Nat.{ℕ, zero, suc, _+_, _-_, _/_, _%_, _≤_, _<_, min}
+use mathlib.Core.List.{List, [], _∷_, _++_}
+use Prim.Native.Nat.{ℕ, zero, suc, _+_, _-_, _/_, _%_, _≤_, _<_}
 use native.Mathlib.Nat.{add-zero, zero-add, le-refl, le-of-lt}
 use native.Mathlib.Decide.{decLe}
 use native.Mathlib.Numerals.{add-one}
 use native.Mathlib.Omega.{arith}
 use lib.ListN.{length, take, drop, getD, set, replicate, take-append-drop, List·getD-append, length-append, length-drop}
 use lib.ListN.{drop-of-length-le}
-use lib.Seq.{drop-cons, drop-drop, take-suc, take-all, length-take-le, sets, sets-eq, length-sets, set-out}
+use lib.Seq.{drop-drop, take-suc, take-all, length-take-le, sets, sets-eq, length-sets, set-out}
 use lib.Dec.{eqb, leb, lit≤}
 use borrow.Author.Tests.{eq-eqb, ne-eqb, le-leb, lt-leb}
 use Rattle.spec.specs.Lists.{over}
-use Rattle.spec.specs.Utf8.{Range, _to_, within, utf8Of}
+use Rattle.spec.specs.Utf8.{_to_, within, utf8Of}
 use Rattle.spec.specs.Digits.{hexRun}
 use Rattle.spec.specs.Literal.{Piece, backslash, letterB, letters, lookUp, escaped, byteEscape, pointEscape, escape, pieceAt}
 use Rattle.spec.specs.Literal.{Read, bad, put, piece, inside, isQuote, quoted, read, literal}

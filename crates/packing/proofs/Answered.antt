@@ -1,6 +1,6 @@
 -- The capacity that is searched, and what the code's answers say of it. Assumes nothing.
 use mathlib.Core.Path.{_≡_, refl, sym, ap, _∙_}
-use mathlib.Core.List.{List, _++_, map}
+use mathlib.Core.List.{List, map}
 use Prim.Native.Nat.{ℕ, _+_, _-_, _*_, _^_, _≤_, _<_, min}
 use native.Mathlib.Omega.{arith}
 use lib.ListN.{length, take, drop, replicate, length-map}

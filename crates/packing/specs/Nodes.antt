@@ -2,7 +2,7 @@
 -- Assumes nothing.
 use mathlib.Core.Bool.{Bool, true, false, cond}
 use mathlib.Core.List.{List, [], _∷_, _++_, map}
-use Prim.Native.Nat.{ℕ, zero, suc, _+_, _/_, max, min}
+use Prim.Native.Nat.{ℕ, zero, suc, _/_, max, min}
 use lib.Dec.{eqb, leb}
 use lib.Bits.{bitXor}
 use lib.ListN.{take, drop}

@@ -1,13 +1,12 @@
 -- The starred examples of document 01, "Examples on V and single lines": one table of theorems, a row each, by computation. An edit of a
 -- definition that changes what it says of V is refused here. Assumes nothing.
 use mathlib.Core.Path.{_≡_, refl, ap, _∙_}
-use mathlib.Core.Bool.{Bool, true, false}
-use mathlib.Core.Option.{Option, none, some}
+use mathlib.Core.Bool.{true, false}
+use mathlib.Core.Option.{none, some}
 use mathlib.Core.List.{List, [], _∷_, _++_, append-nil}
 use Prim.Native.Nat.{ℕ, _-_}
 use native.Mathlib.Nat.{sub-self}
 use lib.ListN.{length, getD, replicate}
-use lib.IntN.{ℤ}
 use lib.Seq.{drop-nil}
 use Rattle.spec.specs.Lists.{over}
 use Rattle.spec.specs.Check.{andThen, given, need}

@@ -7,7 +7,7 @@ use mathlib.Core.List.{List, [], _∷_, _++_}
 use Prim.Native.Nat.{ℕ, zero, suc, _+_, _-_}
 use lib.Dec.{eqb, leb, ltb}
 use lib.ListN.{length, take, drop, getD}
-use Rattle.spec.specs.Utf8.{Range, _to_, within, utf8Of}
+use Rattle.spec.specs.Utf8.{_to_, within, utf8Of}
 use Rattle.spec.specs.Digits.{hexAfter, hexRun}
 
 -- ── Bytes with a meaning ─────────────────────────────────────────────

@@ -7,7 +7,6 @@ use mathlib.Core.List.{List, [], _∷_, _++_}
 use Prim.Native.Nat.{ℕ, zero, suc, _+_, _-_, _*_, _/_, _^_, min}
 use lib.Dec.{eqb, leb, ltb}
 use lib.ListN.{length}
-use Rattle.spec.specs.Lists.{each}
 use Rattle.spec.specs.Check.{Check, pass, refuse, andThen, given, need}
 use Rattle.spec.specs.Utf8.{wellFormed, illFormedAt}
 use Rattle.spec.specs.Digits.{digits}

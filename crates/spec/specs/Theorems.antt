@@ -4,24 +4,23 @@ use mathlib.Core.Path.{_≡_}
 use mathlib.Core.Logic.{_⊎_, _↔_}
 use mathlib.Core.Bool.{Bool, true, false}
 use mathlib.Core.Option.{Option, none, some}
-use mathlib.Core.List.{List, [], _∷_, _++_, List·Memᴰ}
+use mathlib.Core.List.{List, [], _∷_, _++_}
 use Prim.Native.Nat.{ℕ, _+_, _*_, _^_, _≤_, _<_}
 use lib.ListN.{length, take, getD}
 use Rattle.spec.specs.Lists.{all, Bytes}
-use Rattle.spec.specs.Utf8.{wellFormed}
 use Rattle.spec.specs.Token.{Token, longest, undecided, bytesOf, joined, present, Full}
-use Rattle.spec.specs.Scan.{End, done, failed, Scan, scan}
+use Rattle.spec.specs.Scan.{End, done, failed, scan}
 use Rattle.spec.specs.Trie.{nodeCount}
 use Rattle.spec.specs.Layout.{tableWords}
 use Rattle.spec.specs.Valid.{Valid}
-use Rattle.spec.specs.Memory.{Memory, tooShort, blobBytes, Loaded}
+use Rattle.spec.specs.Memory.{Memory, blobBytes, Loaded}
 use Rattle.spec.specs.Match.{Match, nothing, found, matchOn, undecidedOn}
-use Rattle.spec.specs.Encode.{EncodeEnd, Encoding, encoding}
+use Rattle.spec.specs.Encode.{EncodeEnd, encoding}
 use Rattle.spec.specs.Encode as encode
-use Rattle.spec.specs.Decode.{Decoding, lookup, decoding}
+use Rattle.spec.specs.Decode.{lookup, decoding}
 use Rattle.spec.specs.Decode as decode
-use Rattle.spec.specs.Load.{Room, Place, byte, Outcome, accepted, refused, load, loadOn}
-use Rattle.spec.specs.Stream.{StreamRecord, Call, callRefusal, fresh}
+use Rattle.spec.specs.Load.{Room, byte, accepted, refused, load, loadOn}
+use Rattle.spec.specs.Stream.{Call, callRefusal, fresh}
 use Rattle.spec.specs.Plain.{
   Phase,
   opened,

@@ -2,7 +2,7 @@
 -- Document 01, "Text": "UTF-8 by RFC 3629; lossy text puts U+FFFD for each maximal ill-formed part as in Unicode chapter 3."
 -- One step says what stands at the start of a string; a string is cut into parts by it, and everything else folds over the parts.
 -- The equations that a proof cites come after the definitions, and a table of examples last. Assumes nothing.
-use mathlib.Core.Path.{_≡_, refl, ap, _∙_, sym, subst}
+use mathlib.Core.Path.{_≡_, refl, ap, _∙_, subst}
 use mathlib.Core.Bool.{Bool, true, false, _&&_, cond}
 use mathlib.Core.Option.{Option, none, some}
 use mathlib.Core.List.{List, [], _∷_, _++_}

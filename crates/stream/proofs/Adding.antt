@@ -1,8 +1,8 @@
 -- What an add comes to, from the runs over the window and over the piece. Assumes nothing.
 use mathlib.Core.Path.{_≡_, refl, sym, ap, ap₂, _∙_, subst}
 use mathlib.Core.Bool.{Bool, true, false, true≢false}
-use mathlib.Core.List.{List, [], _∷_, _++_, append-nil, append-assoc}
-use Prim.Native.Nat.{ℕ, zero, suc, _+_, _-_, _≤_, _<_}
+use mathlib.Core.List.{List, [], _∷_, _++_, append-nil}
+use Prim.Native.Nat.{ℕ, suc, _+_, _-_, _≤_, _<_}
 use native.Mathlib.Omega.{arith}
 use native.Mathlib.Nat.{add-zero}
 use lib.Dec.{leb}
@@ -11,7 +11,7 @@ use lib.Seq.{sets, sets-eq, drop-append-add, length-take-le}
 use borrow.Author.Tests.{leb-true, leb-false}
 use Rattle.spec.specs.Answer.{whole}
 use Rattle.spec.specs.Lists.{over}
-use Rattle.spec.specs.Scan.{Stop, waiting, stuck, Run}
+use Rattle.spec.specs.Scan.{waiting, stuck, Run}
 use Rattle.spec.specs.Memory.{Memory}
 use Rattle.spec.specs.Match.{undecidedOn}
 use Rattle.spec.specs.Stream.{holding, stoppedAt, runOn}

@@ -1,12 +1,11 @@
 -- What a call gives, in each of its ways: refused, added, ended. Assumes nothing.
-use mathlib.Core.Path.{_≡_, refl, sym, ap, ap₂, _∙_, subst}
+use mathlib.Core.Path.{_≡_, refl, sym, ap, _∙_, subst}
 use mathlib.Core.Bool.{Bool, true, false}
-use mathlib.Core.Option.{Option, none, some}
+use mathlib.Core.Option.{none, some}
 use mathlib.Core.List.{List, [], _∷_, _++_}
-use Prim.Native.Nat.{ℕ, zero, suc, pred, _+_, _-_, _≤_, _<_}
+use Prim.Native.Nat.{ℕ, zero, suc, pred, _+_, _-_, _≤_}
 use native.Mathlib.Omega.{arith}
 use lib.ListN.{length, take, length-append}
-use lib.Seq.{sets}
 use Rattle.spec.specs.Answer.{Answer, bare}
 use Rattle.spec.specs.Lists.{over}
 use Rattle.spec.specs.Scan.{Stop, waiting, stuck, Run}
@@ -31,7 +30,7 @@ use Rattle.spec.specs.Stream.{
 use Rattle.stream.specs.declared.Called.{Called}
 use Rattle.stream.specs.Answers.{recordOf, answerOf, Answered}
 use Rattle.stream.specs.Running.{Hands}
-use Rattle.stream.proofs.Refusing.{Passes, passes, call-short, call-refused, call-through}
+use Rattle.stream.proofs.Refusing.{passes, call-short, call-refused, call-through}
 use Rattle.stream.proofs.Adding.{sets-over}
 
 module _ (m : Memory) (r : StreamRecord) (c : Call) (d : Called) (lent : List ℕ) where

@@ -1,18 +1,18 @@
 -- What an end comes to, from the whole encoding of the held bytes: with a cell for every byte it is their scan. Assumes nothing.
 use mathlib.Core.Path.{_≡_, refl, sym, ap, ap₂, _∙_, subst}
-use mathlib.Core.Bool.{Bool, true, false}
+use mathlib.Core.Bool.{false}
 use mathlib.Core.Option.{none}
 use mathlib.Core.List.{List, [], _∷_}
 use Prim.Native.Nat.{ℕ, zero, suc, pred, _+_, _-_, _≤_, _<_}
 use native.Mathlib.Omega.{arith}
-use native.Mathlib.Nat.{add-zero, add-suc}
+use native.Mathlib.Nat.{add-zero}
 use lib.ListN.{length, take}
-use Rattle.spec.specs.Answer.{Answer, bare, whole}
+use Rattle.spec.specs.Answer.{Answer, whole}
 use Rattle.spec.specs.Lists.{over}
 use Rattle.spec.specs.Scan.{End, done, failed, Scan, scanned}
 use Rattle.spec.specs.Memory.{Memory, tooShort}
 use Rattle.spec.specs.Match.{Match, nothing, found, matchOn}
-use Rattle.spec.specs.Encode.{EncodeEnd, complete, unmatched, full, Encoding, encoded, encodeAt, encoding, encodeAnswer, Output, encodeOn}
+use Rattle.spec.specs.Encode.{EncodeEnd, complete, unmatched, Encoding, encoded, encodeAt, encoding, encodeAnswer, Output, encodeOn}
 use Rattle.spec.specs.Stream as spec
 use Rattle.spec.specs.Stream.{
   StreamRecord,

@@ -1,13 +1,13 @@
 -- The refusals of a stream call, case by case, and what a call comes to that is refused or goes through. Assumes nothing.
 use mathlib.Core.Path.{_≡_, refl, sym, ap, _∙_}
 use mathlib.Core.Bool.{Bool, true, false, _||_, true≢false}
-use mathlib.Core.Option.{Option, none, some}
+use mathlib.Core.Option.{none, some}
 use mathlib.Core.List.{List, []}
 use Prim.Native.Nat.{ℕ, _+_, _≤_, _<_}
 use native.Mathlib.Omega.{arith}
 use lib.Dec.{eqb, leb, ltb}
 use lib.ListN.{length}
-use borrow.Author.Tests.{le-leb, lt-leb, lt-ltb, le-ltb, eq-eqb, ne-eqb, leb-false, ltb-false, eqb-false}
+use borrow.Author.Tests.{le-leb, lt-leb, lt-ltb, le-ltb, eq-eqb, ne-eqb, ltb-false}
 use Rattle.spec.specs.Answer.{Answer, bare}
 use Rattle.spec.specs.Memory.{Memory, tooShort}
 use Rattle.spec.specs.Stream.{StreamRecord, Call, add, end, again, callRefusal, unchanged, goesThrough, callOn}

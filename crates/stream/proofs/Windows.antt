@@ -1,18 +1,17 @@
 -- A window: the held bytes and as much of the piece as a match from a held byte can reach. At every held byte it looks like the held bytes
 -- followed by the whole piece, since a walk reads at most 255 bytes and a run of 255 is decided. Assumes nothing.
-use mathlib.Core.Path.{_≡_, refl, sym, ap, ap₂, _∙_, subst}
-use mathlib.Core.Logic.{_⊎_, inl, inr}
-use mathlib.Core.Bool.{Bool, true, false, not, _&&_}
-use mathlib.Core.List.{List, [], _∷_, _++_, append-nil}
-use Prim.Native.Nat.{ℕ, zero, suc, _+_, _-_, _*_, _≤_, _<_, min}
+use mathlib.Core.Path.{_≡_, refl, sym, ap, _∙_, subst}
+use mathlib.Core.Bool.{Bool, true, false}
+use mathlib.Core.List.{List, [], _∷_, _++_}
+use Prim.Native.Nat.{ℕ, zero, suc, _+_, _*_, _≤_}
 use native.Mathlib.Omega.{arith}
-use lib.IntN.{ℤ, pos}
-use lib.Dec.{eqb, leb, ltb}
-use lib.ListN.{length, take, drop, getD, length-append, length-drop, length-take, List·getD-append}
+use lib.IntN.{pos}
+use lib.Dec.{eqb, leb}
+use lib.ListN.{length, take, drop, getD, length-append, length-drop, List·getD-append}
 use lib.Seq.{take-take, take-all, drop-append-le, length-take-le}
-use borrow.Author.Tests.{le-ltb, leb-true, leb-false}
+use borrow.Author.Tests.{leb-true, leb-false}
 use Rattle.spec.specs.Memory.{Memory}
-use Rattle.spec.specs.Match.{Walk, enter, walkOn, Match, nothing, found, one, matchOn, undecidedOn}
+use Rattle.spec.specs.Match.{Walk, enter, walkOn, Match, found, one, matchOn}
 use Rattle.stream.specs.Running.{Alike}
 use Rattle.stream.proofs.Deciding.{long-decided}
 

@@ -2,11 +2,11 @@
 -- Assumes nothing.
 use mathlib.Core.Path.{_≡_}
 use mathlib.Core.Bool.{true}
-use mathlib.Core.List.{List, [], _∷_, _++_}
+use mathlib.Core.List.{List, _++_}
 use Prim.Native.Nat.{ℕ, _+_, _≤_, _<_}
 use lib.ListN.{length, drop, getD}
 use lib.Seq.{sets}
-use Rattle.spec.specs.Scan.{Stop, waiting, stuck, Run}
+use Rattle.spec.specs.Scan.{waiting, stuck, Run}
 use Rattle.spec.specs.Memory.{Memory}
 use Rattle.spec.specs.Match.{matchOn, undecidedOn}
 use Rattle.spec.specs.Stream.{runOn, added}

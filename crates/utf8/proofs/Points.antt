@@ -1,6 +1,6 @@
 -- The table of RFC 3629, section 3, and the grammar of its section 4 agree: the bytes of each code point that is a character are one
 -- character by the grammar, and stand for that code point again. Assumes nothing.
-use mathlib.Core.Path.{_≡_, refl, ap, _∙_, sym, subst}
+use mathlib.Core.Path.{_≡_, refl, sym, subst}
 use mathlib.Core.Bool.{Bool, true, false}
 use mathlib.Core.Option.{some}
 use mathlib.Core.List.{List, [], _∷_, _++_}
@@ -10,7 +10,7 @@ use native.Mathlib.Omega.{arith}
 use lib.Dec.{leb}
 use lib.ListN.{length}
 use borrow.Author.Tests.{leb-true, leb-false}
-use Rattle.spec.specs.Utf8.{_to_, tail, In, Out, inside, grammar, after, Step, char, follow, stepOf, step-cons, pointOf}
+use Rattle.spec.specs.Utf8.{_to_, tail, In, Out, inside, grammar, after, char, follow, stepOf, step-cons, pointOf}
 use Rattle.spec.specs.Utf8.{utf8Of, utf8-1, utf8-2, utf8-3, utf8-4}
 use Rattle.utf8.proofs.Ranges.{after-at}
 

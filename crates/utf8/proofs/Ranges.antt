@@ -3,14 +3,14 @@
 use mathlib.Core.Path.{_≡_, refl, ap, _∙_, sym, subst}
 use mathlib.Core.Logic.{inl, inr, ⊎-elim}
 use mathlib.Core.Bool.{Bool, true, false, _&&_, _||_, cond}
-use mathlib.Core.Option.{Option, none, some}
+use mathlib.Core.Option.{none, some}
 use mathlib.Core.List.{List, [], _∷_}
 use Prim.Native.Nat.{ℕ, zero, suc, _≤_, _<_}
 use native.Mathlib.Omega.{arith}
 use lib.ListN.{length}
 use types.Run.{OneOf}
 use Rattle.spec.specs.Lists.{any, all}
-use Rattle.spec.specs.Utf8.{Range, Rule, _to_, _then_, within, grammar, In, Out, inside, outside, ruleFor, after, whiteRanges, whiteSpace}
+use Rattle.spec.specs.Utf8.{Range, Rule, _to_, within, grammar, In, Out, inside, outside, ruleFor, after, whiteRanges, whiteSpace}
 
 -- n lies in no range of the list
 abbrev pub Nowhere : List Range → ℕ → Type 0

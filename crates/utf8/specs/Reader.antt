@@ -4,11 +4,11 @@ use mathlib.Core.Path.{_≡_, refl, ap, _∙_, sym}
 use mathlib.Core.Bool.{Bool, true, false, cond}
 use mathlib.Core.Option.{Option, none, some}
 use mathlib.Core.List.{List, [], _∷_, _++_, append-assoc, append-nil}
-use Prim.Native.Nat.{ℕ, zero, suc, _+_, _≤_, _<_}
+use Prim.Native.Nat.{ℕ, zero, suc, _≤_}
 use native.Mathlib.Omega.{arith}
 use lib.ListN.{length, take, drop, length-drop}
 use lib.Seq.{drop-append-seam, drop-length, append-snoc}
-use Rattle.spec.specs.Utf8.{Range, Rule, grammar, ruleFor, within, after, Step, char, bad, cut, follow, stepOf, step-cons}
+use Rattle.spec.specs.Utf8.{Range, Rule, grammar, ruleFor, within, after, bad, cut, follow, stepOf, step-cons}
 use Rattle.spec.specs.Utf8.{wellFormed, well-formed-char, well-formed-other, replacement, lossy, lossy-nil, lossy-char, lossy-other}
 
 -- ── One byte ─────────────────────────────────────────────────────────

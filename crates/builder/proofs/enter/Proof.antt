@@ -60,7 +60,7 @@ use lib.IntN.{ℤ}
 use Rattle.trie.proofs.Lent.{at-list, lends-mut, ends-mut}
 use lib.Seq.{length-take-le}
 use Rattle.trie.proofs.Walking.{checks, says2, ne-of, le-le}
-use lib.Dec.{eqb, ltb, eqb→eq, ltb→lt, nltb→le}
+use lib.Dec.{eqb→eq, ltb→lt, nltb→le}
 use Rattle.builder.specs.Grow.{enter-full, enter-twice, enter-one, enter-more}
 use Rattle.trie.specs.declared.Inserted.{Inserted}
 use lib.Seq.{length-take-le, getD-take}

@@ -1,5 +1,5 @@
 -- `encoding::walk_at` meets its contract: the same walk, its words as numbers. Assumes nothing.
-use mathlib.Core.Path.{_≡_, sym, ap₂, _∙_}
+use mathlib.Core.Path.{sym, ap₂, _∙_}
 use Prim.Native.Nat.{ℕ}
 use borrow.Author.Needs.{needs}
 use Rattle.spec.specs.Match.{idIn, baseIn}

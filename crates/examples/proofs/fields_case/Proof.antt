@@ -1,5 +1,5 @@
 -- `examples::fields_case` is safe and ends: the spaces that are found stand in the line. Assumes nothing.
-use mathlib.Core.Path.{_≡_, sym, subst}
+use mathlib.Core.Path.{sym, subst}
 use native.Mathlib.Omega.{arith}
 use lib.Seq.{length-take-le}
 use Rattle.line.specs.Answers.{Within}

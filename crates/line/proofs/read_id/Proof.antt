@@ -1,7 +1,7 @@
 -- `line::read_id` meets its contract. Assumes nothing.
-use mathlib.Core.Path.{_≡_, refl, sym, ap, _∙_}
+use mathlib.Core.Path.{sym, ap, _∙_}
 use native.Mathlib.Omega.{arith}
-use Rattle.spec.specs.Check.{given, pass}
+use Rattle.spec.specs.Check.{given}
 use Rattle.spec.specs.Digits.{digits, digits-le}
 use Rattle.literal.specs.Answers.{numberOf}
 use borrow.Author.Needs.{needs}

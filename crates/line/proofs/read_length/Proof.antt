@@ -1,6 +1,6 @@
 -- `line::read_length` meets its contract. Assumes nothing.
-use mathlib.Core.Path.{_≡_, refl, sym, ap, _∙_}
-use Rattle.spec.specs.Check.{given, pass}
+use mathlib.Core.Path.{sym, ap, _∙_}
+use Rattle.spec.specs.Check.{given}
 use Rattle.spec.specs.Digits.{digits}
 use Rattle.literal.specs.Answers.{numberOf}
 use borrow.Author.Needs.{needs}

@@ -1,5 +1,5 @@
 -- `line::split_fields` meets its contract. Assumes nothing.
-use mathlib.Core.Path.{_≡_, refl, sym, ap, _∙_}
+use mathlib.Core.Path.{sym, ap, _∙_}
 use native.Mathlib.Omega.{arith}
 use Rattle.line.specs.Answers.{spaceOf}
 use Rattle.line.proofs.Spaces.{first-lt, last-lt}

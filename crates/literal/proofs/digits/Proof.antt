@@ -1,9 +1,9 @@
 -- `literal::digits` meets its contract. The invariant: the rest, read on from the value so far, gives what the whole text gives.
 -- Assumes nothing.
-use mathlib.Core.Path.{_≡_, refl, sym, ap, _∙_}
-use Prim.Native.Nat.{ℕ, _+_, _-_, _*_, _≤_, _<_}
+use mathlib.Core.Path.{_≡_, sym, _∙_}
+use Prim.Native.Nat.{_-_, _≤_}
 use native.Mathlib.Omega.{arith}
-use lib.ListN.{length, drop, getD}
+use lib.ListN.{length, drop}
 use Rattle.spec.specs.Digits.{digits as digitsOf}
 use Rattle.literal.proofs.Numbers.{digit-yes, digit-below, digit-above, rest, digit-goes, digit-stops, digit-ends}
 use Rattle.literal.proofs.Numbers.{digits-some, digits-none, too-much}

@@ -1,5 +1,5 @@
 -- `literal::escape` meets its contract: each arm's letter has its answer. Assumes nothing.
-use mathlib.Core.Path.{_≡_, refl, sym, ap, _∙_}
+use mathlib.Core.Path.{refl, sym, ap, _∙_}
 use native.Mathlib.Omega.{arith}
 use Rattle.spec.specs.Literal.{byteEscape, pointEscape}
 use Rattle.literal.proofs.Numbers.{part-from}

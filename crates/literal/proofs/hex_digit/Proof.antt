@@ -1,5 +1,5 @@
 -- `literal::hex_digit` meets its contract: each arm has its range. Assumes nothing.
-use mathlib.Core.Path.{_≡_, sym}
+use mathlib.Core.Path.{sym}
 use native.Mathlib.Omega.{arith}
 use borrow.Author.Needs.{needs}
 use Rattle.literal.proofs.Numbers.{hex-decimal, hex-small, hex-capital, hex-below, hex-after-decimal, hex-after-capital, hex-above}

@@ -1,11 +1,11 @@
 -- `literal::hex_run` meets its contract. The invariant: the rest of the run, read on from the value so far, gives what the whole run
 -- gives, and the value is below 16 to the power of the digits read, so that it never wraps. Assumes nothing.
-use mathlib.Core.Path.{_≡_, refl, sym, ap, _∙_}
-use Prim.Native.Nat.{ℕ, _+_, _-_, _*_, _^_, _≤_, _<_}
+use mathlib.Core.Path.{_≡_, sym, ap, _∙_}
+use Prim.Native.Nat.{_-_, _^_, _≤_, _<_}
 use native.Mathlib.Nat.{sub-zero}
 use native.Mathlib.Omega.{arith}
 use borrow.Author.Needs.{needs}
-use lib.ListN.{length, drop, getD}
+use lib.ListN.{drop}
 use Rattle.spec.specs.Digits.{hexRun, hexAfter}
 use Rattle.literal.specs.Answers.{numberOf}
 use Rattle.literal.proofs.Numbers.{hex-lt, hex-goes, hex-stops, hex-short, hex-ends, hex-grows, hex-fits}

@@ -1,7 +1,7 @@
 -- `literal::inside` meets its contract. The invariant: what is read from here on leaves what the whole reading leaves, and no more bytes
 -- are written than were read, so that their number never wraps. Assumes nothing.
-use mathlib.Core.Path.{_≡_, refl, sym, ap, _∙_}
-use Prim.Native.Nat.{ℕ, _+_, _-_, _≤_, _<_}
+use mathlib.Core.Path.{_≡_, refl, _∙_}
+use Prim.Native.Nat.{_-_, _≤_}
 use native.Mathlib.Omega.{arith}
 use borrow.Author.Needs.{needs}
 use lib.ListN.{length, drop, length-drop}

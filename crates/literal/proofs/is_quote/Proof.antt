@@ -1,6 +1,6 @@
 -- `literal::is_quote` meets its contract. Assumes nothing.
-use mathlib.Core.Path.{_≡_, refl, sym, _∙_}
-use mathlib.Core.Logic.{inl, inr, ⊎-elim}
+use mathlib.Core.Path.{sym}
+use mathlib.Core.Logic.{inl, inr}
 use Rattle.literal.proofs.Reading.{quote-yes, quote-no}
 use Rattle.literal.proofs.is_quote.Statement.{statement}
 use Rattle.literal.proofs.is_quote.Tie as tie

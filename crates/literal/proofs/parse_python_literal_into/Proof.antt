@@ -1,8 +1,8 @@
 -- `literal::parse_python_literal_into` meets its contract. Assumes nothing.
-use mathlib.Core.Path.{_≡_, refl, sym, ap, _∙_}
+use mathlib.Core.Path.{sym, ap, _∙_}
 use mathlib.Core.Bool.{true}
 use native.Mathlib.Omega.{arith}
-use Rattle.spec.specs.Literal.{Read, escape, quoted}
+use Rattle.spec.specs.Literal.{escape, quoted}
 use Rattle.literal.specs.Answers.{left}
 use Rattle.literal.proofs.Numbers.{part-from}
 use Rattle.literal.proofs.Reading.{bad-start, read-empty, read-bytes, read-string, finished}

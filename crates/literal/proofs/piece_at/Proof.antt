@@ -1,5 +1,5 @@
 -- `literal::piece_at` meets its contract. Assumes nothing.
-use mathlib.Core.Path.{_≡_, refl, sym, ap, _∙_}
+use mathlib.Core.Path.{sym, ap, _∙_}
 use native.Mathlib.Omega.{arith}
 use Rattle.spec.specs.Literal.{escape}
 use Rattle.literal.proofs.Numbers.{part-from}

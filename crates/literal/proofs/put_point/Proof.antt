@@ -1,9 +1,8 @@
 -- `literal::put_point` meets its contract. The invariant: the first i bytes are stored. Assumes nothing.
-use mathlib.Core.Path.{_≡_, refl, sym, ap, ap₂, _∙_}
+use mathlib.Core.Path.{_≡_, refl, ap, ap₂, _∙_}
 use mathlib.Core.List.{List}
 use Prim.Native.Nat.{ℕ, _+_, _-_, _≤_, _<_}
 use native.Mathlib.Omega.{arith}
-use borrow.Author.Needs.{needs}
 use lib.ListN.{length, take, set}
 use lib.Seq.{sets, take-all}
 use Rattle.spec.specs.Utf8.{utf8Of}

@@ -1,11 +1,10 @@
 -- `literal::quoted` meets its contract. Assumes nothing.
-use mathlib.Core.Path.{_≡_, refl, sym, ap, _∙_}
-use mathlib.Core.List.{List}
-use Prim.Native.Nat.{ℕ, _-_, _≤_}
+use mathlib.Core.Path.{_≡_, sym, ap, _∙_}
+use Prim.Native.Nat.{_-_}
 use native.Mathlib.Omega.{arith}
 use borrow.Author.Tests.{not-true, not-false}
-use lib.ListN.{length, take, drop, getD}
-use Rattle.spec.specs.Literal.{Read, escape, inside}
+use lib.ListN.{length}
+use Rattle.spec.specs.Literal.{inside}
 use Rattle.literal.specs.Answers.{left}
 use Rattle.literal.proofs.Reading.{bad-start, too-short, no-quote, not-closed, all-closed}
 use borrow.Author.Needs.{needs}

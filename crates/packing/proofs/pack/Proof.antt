@@ -63,7 +63,7 @@ use Rattle.packing.specs.Answer.{capacity, PackedAs}
 use Rattle.packing.specs.declared.Packed.the-variants.{Words, NoRoom}
 use Rattle.trie.proofs.Lent.{at-list, lends-shared, ends-shared, lends-mut, ends-mut}
 use Rattle.trie.proofs.Walking.{checks, says2, ne-of, le-keeps}
-use lib.Dec.{eqb, eqb→eq}
+use lib.Dec.{eqb→eq}
 use Rattle.packing.proofs.Walked.{ended-full, ended-open}
 use Rattle.packing.proofs.Answered.{end-zero, end-bounds, end-past, end-room, past-answer, words-pos, fits-answer, capacity-le}
 use Rattle.packing.proofs.Answered.{roots-behind}

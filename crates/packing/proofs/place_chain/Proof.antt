@@ -56,7 +56,7 @@ use Rattle.packing.specs.Nodes.{blocks}
 use Rattle.packing.specs.Walk.{Amid, Turn, Walked, Within}
 use Rattle.trie.proofs.Lent.{at-list, lends-shared, ends-shared, lends-mut, ends-mut}
 use Rattle.trie.proofs.Walking.{tests, checks, says2, ne-of, lt-le, lt-keeps, le-keeps, below-one}
-use lib.Dec.{eqb, ltb, leb, eqb→eq, ltb→lt, leb→le, nltb→le, nleb→lt}
+use lib.Dec.{eqb→eq, ltb→lt, leb→le, nltb→le, nleb→lt}
 use Rattle.packing.proofs.Walked.{at-zero, no-fuel, past-made, full-ends, open-goes}
 use Rattle.trie.proofs.Calls.{FetchFn, Node-at, Node-is, Node-row, gives-fetch, got-fetch, to-fetch}
 use Rattle.packing.proofs.Calls.{Front-at, Front-is, Front-row, Front-vals, OneLessFn, PlaceNodeFn, gives-one-less}

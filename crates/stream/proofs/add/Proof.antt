@@ -1,9 +1,7 @@
 -- `stream::add` meets its contract: number 1 and the refusals leave all as it was, and what goes through is `take_piece`. Assumes nothing.
-use mathlib.Core.Path.{_≡_, refl, sym, ap, _∙_, subst}
+use mathlib.Core.Path.{_≡_, refl, sym, ap, _∙_}
 use mathlib.Core.Bool.{false}
 use mathlib.Core.Option.{none}
-use mathlib.Core.List.{List, []}
-use Prim.Native.Nat.{ℕ, _+_, _≤_}
 use native.Mathlib.Omega.{arith}
 use lib.ListN.{length, take}
 use lib.Seq.{length-take-le}
@@ -11,7 +9,7 @@ use denote.Ref.{now}
 use borrow.Author.Needs.{needs}
 use Rattle.spec.specs.Memory.{Memory, memory, tooShort}
 use Rattle.spec.specs.Stream.{StreamRecord, Call, add, callRefusal}
-use Rattle.stream.specs.Answers.{recordOf, answerOf, refusalOf}
+use Rattle.stream.specs.Answers.{recordOf, refusalOf}
 use Rattle.stream.proofs.Refusing.{Passes, passes, long-enough}
 use Rattle.stream.proofs.Holding.{length-as}
 use Rattle.stream.proofs.Calling.{gives-short, gives-refused, gives-added}

@@ -4,13 +4,12 @@ use mathlib.Core.Path.{_≡_, refl, sym, ap, _∙_}
 use mathlib.Core.Bool.{false}
 use mathlib.Core.Option.{none}
 use mathlib.Core.List.{List, []}
-use Prim.Native.Nat.{ℕ, _+_, _-_, _≤_, _<_}
+use Prim.Native.Nat.{ℕ, _≤_, _<_}
 use native.Mathlib.Omega.{arith}
 use lib.ListN.{length, take}
 use lib.Seq.{length-take-le}
 use denote.Ref.{now}
 use borrow.Author.Needs.{needs}
-use Rattle.spec.specs.Answer.{Answer, whole, bare}
 use Rattle.spec.specs.Memory.{Memory, memory, tooShort}
 use Rattle.spec.specs.Encode.{encodeOn}
 use Rattle.spec.specs.Stream.{StreamRecord, Call, add, end, callRefusal}

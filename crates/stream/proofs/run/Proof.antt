@@ -2,13 +2,13 @@
 -- and there is a cell for every byte left. Assumes nothing.
 use mathlib.Core.Path.{_≡_, refl, sym, ap, _∙_}
 use mathlib.Core.List.{List, []}
-use Prim.Native.Nat.{ℕ, _+_, _-_, _≤_, _<_}
+use Prim.Native.Nat.{ℕ, _+_, _-_, _≤_}
 use native.Mathlib.Omega.{arith}
 use lib.ListN.{length, drop, length-drop, length-set}
 use denote.Ref.{now}
 use borrow.Author.Needs.{needs}
 use Rattle.spec.specs.Memory.{Memory, memory}
-use Rattle.spec.specs.Match.{matchOn, found, undecidedOn}
+use Rattle.spec.specs.Match.{matchOn, found}
 use Rattle.encoding.specs.Answers.{matchOf}
 use Rattle.encoding.specs.Bounds.{match-within}
 use Rattle.stream.proofs.Steps.{Stands, stands-first, stands-next, ends-waiting, ends-stuck, ends-through}

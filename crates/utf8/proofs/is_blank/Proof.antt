@@ -7,8 +7,8 @@ use mathlib.Core.Bool.{_&&_}
 use mathlib.Core.List.{List}
 use Prim.Native.Nat.{ℕ, _+_, _-_, _≤_, _<_}
 use native.Mathlib.Omega.{arith}
-use lib.ListN.{length, take, drop}
-use Rattle.spec.specs.Utf8.{char, stepOf, pointOf, whiteSpace, blank}
+use lib.ListN.{length, drop}
+use Rattle.spec.specs.Utf8.{char, stepOf, whiteSpace, blank}
 use Rattle.utf8.specs.Means.{stepMeans}
 use Rattle.utf8.proofs.Steps.{no-char, char-size, blank-at-char, blank-at-other, blank-end}
 use Rattle.utf8.proofs.is_blank.Statement.{statement}

@@ -69,9 +69,6 @@ use Rattle.trie.proofs.Lent.{at-list, lends-shared, ends-shared, lends-mut, end
 use Rattle.trie.proofs.Walking.{checks, says2, le-keeps}
 use Rattle.vocabulary.specs.Settling.{lines-refused, lines-made, lines-room, lines-finished, kept-trans}
 use Rattle.vocabulary.specs.declared.lines.Lines.the-variants as Lines
-use Rattle.vocabulary.specs.declared.Load.the-variants as Load
-use Rattle.vocabulary.specs.declared.Place.the-variants as Place
-use Rattle.utf8.specs.declared.Text.the-variants as Text
 use Rattle.spec.specs.Memory.{Memory as Lent-memory}
 use Rattle.builder.proofs.Calls.{Build-at, Build-is, Build-row, Build-vals, Finished-at, Finished-is}
 use Rattle.trie.proofs.Calls.{Node-row}

@@ -58,9 +58,6 @@ use lib.IntN.{ℤ}
 use Rattle.trie.proofs.Lent.{at-list, lends-shared, ends-shared, lends-mut, ends-mut}
 use Rattle.trie.proofs.Walking.{checks, says2}
 use Rattle.vocabulary.specs.Settling.{loads-short, loads-bad, text-late, loads-text}
-use Rattle.vocabulary.specs.declared.lines.Lines.the-variants as Lines
-use Rattle.vocabulary.specs.declared.Load.the-variants as Load
-use Rattle.vocabulary.specs.declared.Place.the-variants as Place
 use Rattle.utf8.specs.declared.Text.the-variants as Text
 use Rattle.laws.specs.Reads.{long-enough}
 use Rattle.spec.specs.Memory.{Memory as Lent-memory}

@@ -61,10 +61,6 @@ use Rattle.trie.proofs.Arrays.{as-cells, as-room, lends-array, ends-array}
 use Rattle.trie.proofs.Walking.{le-keeps, le-refl}
 use lib.Dec.{lit<}
 use Rattle.vocabulary.specs.Settling.{text-settles}
-use Rattle.vocabulary.specs.declared.lines.Lines.the-variants as Lines
-use Rattle.vocabulary.specs.declared.Load.the-variants as Load
-use Rattle.vocabulary.specs.declared.Place.the-variants as Place
-use Rattle.utf8.specs.declared.Text.the-variants as Text
 use Rattle.builder.proofs.Calls.{Build-at, Build-is}
 use Rattle.trie.proofs.Calls.{Node-row}
 use Rattle.vocabulary.proofs.Calls.{BeginFn, BuildFn, Load-at, Load-is, Load-row, Load-val, Load-vals, SettleFn, gives-begin}

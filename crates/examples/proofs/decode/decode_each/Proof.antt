@@ -1,8 +1,7 @@
 -- `examples::decode::decode_each` is safe and ends. Assumes nothing.
 use mathlib.Core.Path.{_≡_}
-use Prim.Native.Nat.{ℕ, _-_, _≤_}
-use native.Mathlib.Omega.{arith}
-use lib.ListN.{length, length-set}
+use Prim.Native.Nat.{_-_, _≤_}
+use lib.ListN.{length}
 use borrow.Author.Needs.{needs}
 use Rattle.examples.proofs.decode.decode_each.Statement.{statement}
 use Rattle.examples.proofs.decode.decode_each.Tie as tie

@@ -1,5 +1,5 @@
 -- `examples::runs::run_end` meets its contract. Assumes nothing.
-use Prim.Native.Nat.{ℕ, _-_, _≤_}
+use Prim.Native.Nat.{_-_, _≤_}
 use borrow.Author.Needs.{needs}
 use Rattle.examples.proofs.runs.run_end.Statement.{statement}
 use Rattle.examples.proofs.runs.run_end.Tie as tie

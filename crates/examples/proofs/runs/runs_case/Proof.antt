@@ -1,5 +1,5 @@
 -- `examples::runs::runs_case` is safe and ends: each run starts behind the one before. Assumes nothing.
-use Prim.Native.Nat.{ℕ, _-_, _≤_}
+use Prim.Native.Nat.{_-_, _≤_}
 use borrow.Author.Needs.{needs}
 use Rattle.examples.proofs.runs.runs_case.Statement.{statement}
 use Rattle.examples.proofs.runs.runs_case.Tie as tie

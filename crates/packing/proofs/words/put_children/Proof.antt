@@ -53,7 +53,7 @@ use Rattle.packing.specs.Nodes.{nodeWord, childWrites}
 use lib.Bits.{bitXor}
 use Rattle.trie.proofs.Lent.{at-list, lends-mut, ends-mut}
 use Rattle.trie.proofs.Walking.{tests, checks, ne-of, lt-le, below-one}
-use lib.Dec.{lit<, eqb, ltb, leb, eqb→eq, ltb→lt, leb→le, nltb→le, nleb→lt}
+use lib.Dec.{lit<, eqb→eq, ltb→lt, leb→le, nltb→le, nleb→lt}
 use Rattle.packing.proofs.Turns.{children-end, children-out, children-done, children-turn}
 use Rattle.trie.proofs.Calls.{FetchFn, Node-at, Node-is, Node-row, gives-fetch, got-fetch, to-fetch}
 use Rattle.packing.proofs.Calls.{OneLessFn, PutChildFn, gives-one-less, gives-put-child, got-one-less, got-put-child, to-one-less}

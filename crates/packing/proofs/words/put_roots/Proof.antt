@@ -49,7 +49,7 @@ use Rattle.trie.specs.Run.{room, see}
 use Rattle.packing.specs.Nodes.{rootWord, rootWords}
 use Rattle.trie.proofs.Lent.{at-list, lends-shared, ends-shared, lends-mut, ends-mut}
 use Rattle.trie.proofs.Walking.{tests, lt-le, lt-keeps}
-use lib.Dec.{lit<, ltb, ltb→lt, nltb→le}
+use lib.Dec.{lit<, ltb→lt, nltb→le}
 use Rattle.packing.proofs.Turns.{cell-old, cell-new}
 use Rattle.trie.proofs.Calls.{Node-row}
 use Rattle.packing.proofs.Calls.{IsRootFn, NextRootFn, PutWordFn, RootWordFn, WordAtFn, gives-is-root, gives-next-root}

@@ -53,7 +53,7 @@ use Rattle.trie.specs.Run.{room, see}
 use Rattle.packing.specs.Nodes.{nodeWrites}
 use Rattle.trie.proofs.Lent.{at-list, lends-mut, ends-mut}
 use Rattle.trie.proofs.Walking.{tests, lt-le}
-use lib.Dec.{lit<, ltb, ltb→lt, nltb→le}
+use lib.Dec.{lit<, ltb→lt, nltb→le}
 use Rattle.packing.proofs.Turns.{nodes-turn, nodes-done}
 use Rattle.trie.proofs.Calls.{FetchFn, Node-at, Node-is, Node-row, gives-fetch, got-fetch, to-fetch}
 use Rattle.packing.proofs.Calls.{AfterFn, CountFn, PutChildrenFn, gives-after-fn, gives-count-fn, gives-put-children, got-after-fn}

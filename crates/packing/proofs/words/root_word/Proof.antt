@@ -45,7 +45,7 @@ use Rattle.trie.specs.Run.{room, see}
 use Rattle.packing.specs.Nodes.{rootWord}
 use Rattle.trie.proofs.Lent.{at-list}
 use Rattle.trie.proofs.Walking.{checks, ne-of, lt-le, lt-lt}
-use lib.Dec.{lit<, eqb, leb, eqb→eq, leb→le, nleb→lt}
+use lib.Dec.{lit<, eqb→eq, leb→le, nleb→lt}
 use Rattle.packing.proofs.Turns.{root-none, root-out, root-at}
 use Rattle.trie.proofs.Calls.{FetchFn, Node-at, Node-is, Node-row, gives-fetch, got-fetch, to-fetch}
 use Rattle.packing.proofs.Calls.{NumberFn, NumberOfFn, RootWordOfFn, gives-number-fn, gives-number-of, gives-root-word-of}

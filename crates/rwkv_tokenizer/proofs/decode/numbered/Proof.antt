@@ -4,8 +4,6 @@ use mathlib.Core.Path.{sym, ap}
 use Rattle.decoding.specs.Answers.{answerOf}
 use Rattle.rwkv_tokenizer.proofs.decode.numbered.Statement.{statement}
 use Rattle.rwkv_tokenizer.proofs.decode.numbered.Tie as tie
-use Rattle.rwkv_tokenizer.proofs.decode.numbered.Reads as reads
-use Rattle.rwkv_tokenizer.proofs.decode.numbered.Lts as lts
 
 -- src/decode.rt:17:26
 enum-known-decoded : tie.Need-enum-known-decoded

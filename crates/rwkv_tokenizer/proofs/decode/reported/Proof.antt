@@ -5,10 +5,6 @@ use Rattle.spec.specs.Answer.{Answer}
 use Rattle.rwkv_tokenizer.specs.Report.{reportOf}
 use Rattle.rwkv_tokenizer.proofs.decode.reported.Statement.{statement}
 use Rattle.rwkv_tokenizer.proofs.decode.reported.Tie as tie
-use Rattle.rwkv_tokenizer.proofs.decode.reported.Reads as reads
-use Rattle.rwkv_tokenizer.proofs.decode.reported.Lts as lts
-use Rattle.rwkv_tokenizer.proofs.decode.numbered.Reads as numbered-reads
-use Rattle.rwkv_tokenizer.proofs.report.write_report.Reads as write-report-reads
 
 -- src/decode.rt:54:9
 numbered-requires : tie.Need-numbered-requires

@@ -5,10 +5,6 @@ use Rattle.spec.specs.Answer.{Answer}
 use Rattle.rwkv_tokenizer.specs.Report.{reportOf}
 use Rattle.rwkv_tokenizer.proofs.decode.rwkv_decode.Statement.{statement}
 use Rattle.rwkv_tokenizer.proofs.decode.rwkv_decode.Tie as tie
-use Rattle.rwkv_tokenizer.proofs.decode.rwkv_decode.Reads as reads
-use Rattle.rwkv_tokenizer.proofs.decode.rwkv_decode.Lts as lts
-use Rattle.decoding.proofs.decode_bytes.Reads as decode-bytes-reads
-use Rattle.rwkv_tokenizer.proofs.decode.reported.Reads as reported-reads
 
 -- src/decode.rt:75:9
 decode-bytes-requires : tie.Need-decode-bytes-requires

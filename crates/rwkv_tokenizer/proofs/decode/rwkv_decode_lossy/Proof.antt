@@ -5,10 +5,6 @@ use Rattle.spec.specs.Answer.{Answer}
 use Rattle.rwkv_tokenizer.specs.Report.{reportOf}
 use Rattle.rwkv_tokenizer.proofs.decode.rwkv_decode_lossy.Statement.{statement}
 use Rattle.rwkv_tokenizer.proofs.decode.rwkv_decode_lossy.Tie as tie
-use Rattle.rwkv_tokenizer.proofs.decode.rwkv_decode_lossy.Reads as reads
-use Rattle.rwkv_tokenizer.proofs.decode.rwkv_decode_lossy.Lts as lts
-use Rattle.decoding.proofs.decode_lossy.Reads as decode-lossy-reads
-use Rattle.rwkv_tokenizer.proofs.decode.reported.Reads as reported-reads
 
 -- src/decode.rt:115:9
 decode-lossy-requires : tie.Need-decode-lossy-requires

@@ -5,10 +5,6 @@ use Rattle.spec.specs.Answer.{Answer}
 use Rattle.rwkv_tokenizer.specs.Report.{reportOf}
 use Rattle.rwkv_tokenizer.proofs.decode.rwkv_decode_utf8.Statement.{statement}
 use Rattle.rwkv_tokenizer.proofs.decode.rwkv_decode_utf8.Tie as tie
-use Rattle.rwkv_tokenizer.proofs.decode.rwkv_decode_utf8.Reads as reads
-use Rattle.rwkv_tokenizer.proofs.decode.rwkv_decode_utf8.Lts as lts
-use Rattle.decoding.proofs.decode_utf8.Reads as decode-utf8-reads
-use Rattle.rwkv_tokenizer.proofs.decode.reported.Reads as reported-reads
 
 -- src/decode.rt:95:9
 decode-utf8-requires : tie.Need-decode-utf8-requires
