@@ -1,0 +1,7 @@
+-- tmp
+pub mod Lent
+pub mod Walking
+pub mod Arrays
+pub mod Loan
+pub mod Walk
+pub mod Prelude

@@ -1,0 +1,1 @@
+// No code: lemmas over the walks of functions that the borrow checker does not cover.
