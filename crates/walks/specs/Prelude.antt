@@ -35,3 +35,5 @@ pub use denote.Triple.Table.{entered, cited}
 pub use Rattle.walks.specs.Loan.{Par, value, copied, viewed, lent, borrowed, Lfs, Shs, Dens, Vss, Ends, Long, ended, row, holds}
 pub use Rattle.walks.specs.Walk.{Plain, Plains, Known, spelled, fitted, met, After, Ending, ends-with, Walked, starts, reborrow, respell, opens-at, closes-at, opens-elem, closes-elem, looks-elem, shuts-elem, Bind, at, calls-of, calls-of-last, copies, cells, Inv, Turn, whiles, next-turn, forgets, dying, Blocks, envAt, leaves, told0, told2, said1, said2}
 pub use Rattle.walks.specs.Walk.{uint-plain, bool-plain, unit-plain, struct-plain, enum-plain}
+pub use Rattle.walks.specs.Local.{repeated, local, lends-local, slices-local, ends-local}
+pub use Rattle.walks.specs.Walking.{tests, checks, ne-of, not-not, lt-le, lt-lt, le-le, lt-of-lt, lt-keeps, le-keeps, below-one, le-refl}

@@ -241,7 +241,7 @@ module _ {M : Type 1} (𝓤 : URA M) (H : Heap 𝓤) (A : Atoms 𝓤) where
         pick ! (λ e. learn ! (λ kn. by ! (subst (λ (us : Vss ps). ent 𝓤 (⋆ 𝓤 H A (holds 𝓤 H A ps κs qs a us)) (run (row ps us) Q)) (sym e) (k kn x))))))
 
     -- ---- the end of a walk
-    give-mut : (R : RattleType) (κ : Lft) (q : Share) (x : RefT (List (R .Denot))) (vs : List Val) (w : List (R .Denot))
+    pub give-mut : (R : RattleType) (κ : Lft) (q : Share) (x : RefT (List (R .Denot))) (vs : List Val) (w : List (R .Denot))
         → ent 𝓤 (sem 𝓤 H A (Mut R κ q (at-last x w) vs)) (H .⇛ (sep 𝓤 (A .lft κ q) (sem 𝓤 H A (finally R (name x) w))))
     give-mut R κ q x vs w = qed W (‵ (Mut R κ q (at-last x w) vs) ∷ []) ∵ updating ! $ fsplit ! $ fsplit ! $ pureL ! (at-slice R (at-last x w) vs) (λ p.
         fsplit ! $ name-done ! tt $ at-once ! $ use1 W (‵ (finally R (name x) w)) (res-finally 𝓤 H A W erased κ R (name x) w) $ keep ! (2 ∷ 0 ∷ []) $ done !)
@@ -545,7 +545,7 @@ module _ {M : Type 1} {𝓤 : URA M} {H : Heap 𝓤} {A : Atoms 𝓤} {K : Type 
 
   module _ {E : Env 𝓤 H} where
     -- a place that begins at local i, whose type and block are known
-    local-at : K → {i : ℕ} {τ : Ty} {b : ℕ} {st : List PStep} {sp : Spot 𝓤 H} → getD E i (noLocal 𝓤 H) ≡ (τ, b) → Walks K W Γ E (τ, b, zero) st sp → Finds K W Γ E (place i st) sp
+    pub local-at : K → {i : ℕ} {τ : Ty} {b : ℕ} {st : List PStep} {sp : Spot 𝓤 H} → getD E i (noLocal 𝓤 H) ≡ (τ, b) → Walks K W Γ E (τ, b, zero) st sp → Finds K W Γ E (place i st) sp
     local-at t {i} {τ} {b} {st} {sp} e w = from t (subst (λ (p : Ty × ℕ). Walks K W Γ E (p .0, p .1, zero) st sp) (sym e) w)
 
 module _ {M : Type 1} {𝓤 : URA M} {H : Heap 𝓤} {A : Atoms 𝓤} {K : Type 0} {W : Given 𝓤 H A} {Γ : List (Item 𝓤)} where
