@@ -3,4 +3,4 @@ pub mod Runs
 pub mod Emptying
 pub mod Stores
 pub mod RuleCases
-pub mod Calls
+pub mod Types

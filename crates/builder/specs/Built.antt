@@ -21,7 +21,6 @@ use Rattle.spec.specs.Load.{Room, admit, lastId, nowhere, byte, accepted, refus
 use Rattle.trie.specs.Run.{Nodes, room}
 use Rattle.trie.specs.Stands.{Stands}
 use Rattle.trie.specs.declared.Inserted.{Inserted}
-use Rattle.trie.specs.declared.Inserted.the-variants as Inserted
 use Rattle.trie.specs.declared.Inserted.the-variants.{Duplicate, Made}
 use Rattle.packing.specs.declared.Packed.{Packed as Packing}
 use Rattle.packing.specs.declared.Packed.the-variants.{Words, NoRoom}
@@ -83,8 +82,8 @@ isTaken (pos n) = true
 isTaken (negsuc n) = false
 
 -- 17: no node for the token
-abbrev pub noRoom : Inserted
-noRoom = Inserted.NoRoom
+abbrev pub noRoom : Pushed
+noRoom = Refused 17
 
 -- a token of one byte among the others: seen before, or no node more
 abbrev pub oneEntered : List ℤ → ℕ → ℕ → Inserted

@@ -1,5 +1,5 @@
 -- The end of a build: the theorem that `finish` cites, and its parts. Assumes nothing.
-use mathlib.Core.Path.{_≡_, refl, sym, ap, ap₂, _∙_}
+use mathlib.Core.Path.{_≡_, refl, sym, ap, ap₂, _∙_, subst}
 use mathlib.Core.Logic.{inl, inr}
 use mathlib.Core.Bool.{Bool, true, false, cond}
 use mathlib.Core.Option.{Option, none, some}
@@ -23,12 +23,12 @@ use Rattle.laws.specs.Spans.{before-all}
 use Rattle.packing.specs.Answer.{capacity, answerFor, PackedAs}
 use Rattle.packing.specs.declared.Packed.{Packed}
 use Rattle.packing.specs.declared.Packed.the-variants.{Words, NoRoom}
-use Rattle.builder.specs.Built.{Built, Kept, setOffsets, missingOn, missingOf, FinishedAs}
+use Rattle.builder.specs.Built.{Built, Kept, setOffsets, missingOn, missingOf, FinishedAs, finishedOf}
 use Rattle.builder.specs.Cells.{run-before, run-in, run-behind, by-index}
 use Rattle.builder.specs.Grow.{taken-seen, last-most}
 use Rattle.builder.specs.declared.Build.{Build}
 use Rattle.builder.specs.declared.Missing.{Missing}
-use Rattle.builder.specs.declared.Missing.the-variants.{Byte, Nothing}
+use Rattle.builder.specs.declared.Missing.the-variants.{Byte}
 use Rattle.builder.specs.declared.Finished.{Finished}
 use Rattle.builder.specs.declared.Finished.the-variants as Finished
 
@@ -127,14 +127,12 @@ module _ (partial : Bool) (r : Room) where
           → As (Finished.Wanting b)
       finished-wanting m e b k = goes (some b) (sym e ∙ ap missingOf k)
 
-      module _ (m : Missing) (e : missingOf m ≡ demanded partial (missingOn s 256 0)) (k : m ≡ Nothing) (most : ℕ) (is : r .table ≡ most)
+      module _ (e : demanded partial (missingOn s 256 0) ≡ none) (most : ℕ) (is : r .table ≡ most)
           (p : Packed) (P : PackedAs ts most rs tb p rs′ tb′) where
         last-test : finish partial r ts ≡ cond (leb (tableWords ts) most) (accepted ts) (refused 21 nowhere)
-        last-test =
-            goes none (sym e ∙ ap missingOf k)
-            ∙ ap (λ (n : ℕ). cond (leb (tableWords ts) n) (accepted ts) (refused 21 nowhere)) is
+        last-test = goes none e ∙ ap (λ (n : ℕ). cond (leb (tableWords ts) n) (accepted ts) (refused 21 nowhere)) is
 
-        pub finished-full : p ≡ NoRoom → As Finished.NoTable
+        finished-full : p ≡ NoRoom → As Finished.NoTable
         unfolding answerFor
         finished-full q = last-test ∙ go (leb (tableWords ts) most) (sym q ∙ P .answer)
           where
@@ -143,7 +141,7 @@ module _ (partial : Bool) (r : Room) where
             go true z = let y : _≡_ {A = ℕ} 0 1 = cc in absurd (omega arith)
             go false z = refl
 
-        pub finished-packs : (n : ℕ) → p ≡ Words n → 65537 ≤ length os → st .previous < 65536
+        finished-packs : (n : ℕ) → p ≡ Words n → 65537 ≤ length os → st .previous < 65536
             → os′ ≡ setOffsets os (st .previous) 65536 (st .used) → As (Finished.Packed n)
         unfolding answerFor
         finished-packs n q long small eo =
@@ -154,6 +152,14 @@ module _ (partial : Bool) (r : Room) where
                 × (n ≡ tableWords ts)
             go true z = (refl, cc)
             go false z = let y : _≡_ {A = ℕ} 0 1 = cc in absurd (omega arith)
+
+      -- what follows the packing
+      pub finished-as : demanded partial (missingOn s 256 0) ≡ none → (most : ℕ) → r .table ≡ most → (p : Packed)
+          → PackedAs ts most rs tb p rs′ tb′ → 65537 ≤ length os → st .previous < 65536
+          → os′ ≡ setOffsets os (st .previous) 65536 (st .used) → (f : Finished) → f ≡ finishedOf p → As f
+      finished-as e most is (Words n) P long small eo f ef = subst As (sym ef)
+          (finished-packs e most is (Words n) P n refl long small eo)
+      finished-as e most is NoRoom P long small eo f ef = subst As (sym ef) (finished-full e most is NoRoom P refl)
 
 -- the capacity that packing works with is the room that a load has
 pub capacity-room : (table used bases : ℕ) → tableRoom table used bases ≡ capacity table used bases

@@ -18,7 +18,7 @@ use native.Mathlib.Omega.{arith}
 use lib.IntN.{ℤ, pos}
 use lib.Dec.{eqb, ltb, leb}
 use lib.ListN.{length, take, drop, getD, set, replicate, length-append, length-set, length-replicate, getD-replicate}
-use lib.Seq.{sets, length-sets, getD-set-same, getD-set-other, drop-set-lt}
+use lib.Seq.{sets, length-sets, getD-set-same, getD-set-other, drop-set-lt, length-take-le, getD-take}
 use borrow.Author.Tests.{eqb-true, eqb-false, eq-eqb, ne-eqb, le-ltb, le-leb, lt-leb, leb-true, leb-false}
 use Rattle.spec.specs.Lists.{each, fold, same, Bytes}
 use Rattle.spec.specs.Check.{pass, refuse, need}
@@ -39,7 +39,7 @@ use Rattle.trie.specs.Stands.{Stands, Grown, answerFor}
 use Rattle.trie.specs.Grow.{seen-id, stands-one, nodes-one}
 use Rattle.trie.specs.declared.Inserted.{Inserted}
 use Rattle.trie.specs.declared.Inserted.the-variants.{Duplicate, NoRoom, Made}
-use Rattle.builder.specs.Built.{Built, Kept, roomFor, PushedAs, isTaken, setSingle, setOffsets}
+use Rattle.builder.specs.Built.{Built, Kept, roomFor, PushedAs, isTaken, noRoom, oneEntered, setSingle, setOffsets}
 use Rattle.builder.specs.Cells.{run-before, run-in, run-behind, pad-more, by-index}
 use Rattle.builder.specs.declared.Build.{Build}
 use Rattle.builder.specs.declared.Pushed.{Pushed}
@@ -115,7 +115,7 @@ count-one ts id b = ap (λ (z : List (List ℕ)). 1 + length z) (nodes-one ts id
 -- a token that was read after the last one
 module _ (ts : List Token) (v : Valid ts) (t : Token) (r : Reads (lastId ts) t) where
   -- nodes are fewer than 2^24, so room beyond 32 bits changes nothing
-  pub answer-cap : (n : ℕ) → answerFor ts t (min n 4294967295) ≡ answerFor ts t n
+  answer-cap : (n : ℕ) → answerFor ts t (min n 4294967295) ≡ answerFor ts t n
   unfolding answerFor
   answer-cap n = go (either (seen ts (t .bytes)))
     where
@@ -134,15 +134,16 @@ module _ (ts : List Token) (v : Valid ts) (t : Token) (r : Reads (lastId ts) t) 
           ap (λ (c : Bool). cond (seen ts (t .bytes)) Duplicate (cond c (Made N) NoRoom))
           (fits (leb N n) (nodeCount-small (ts ++ (t ∷ [])) (valid-snoc ts t v r e)) refl)
 
-  -- without room for the nodes that there are, there is no token yet
-  pub answer-full : (n : ℕ) → (nodeCount ts ≤ n) ⊎ (ts ≡ []) → min n 4294967295 < nodeCount ts → NoRoom ≡ answerFor ts t n
-  unfolding answerFor
-  answer-full n (inl h) q = let k = nodeCount-small ts v in absurd (omega arith)
-  answer-full n (inr e) q =
-      let k = count-more (ts ++ (t ∷ [])) in
-      let z = ap nodeCount e ∙ count-none in
-      sym (no-case _ _ (ap (λ (l : List Token). seen l (t .bytes)) e ∙ seen-none (t .bytes))
-      ∙ no-case _ _ (lt-leb (nodeCount (ts ++ (t ∷ []))) n (omega arith)))
+-- without room for the nodes that there are, there is no token yet
+answer-full : (ts : List Token) → Valid ts → (t : Token) (n : ℕ) → (nodeCount ts ≤ n) ⊎ (ts ≡ []) → min n 4294967295 < nodeCount ts
+    → NoRoom ≡ answerFor ts t n
+unfolding answerFor
+answer-full ts v t n (inl h) q = let k = nodeCount-small ts v in absurd (omega arith)
+answer-full ts v t n (inr e) q =
+    let k = count-more (ts ++ (t ∷ [])) in
+    let z = ap nodeCount e ∙ count-none in
+    sym (no-case _ _ (ap (λ (l : List Token). seen l (t .bytes)) e ∙ seen-none (t .bytes))
+    ∙ no-case _ _ (lt-leb (nodeCount (ts ++ (t ∷ []))) n (omega arith)))
 
 -- ---- a token of one byte: its cell of `single` says whether it was seen
 
@@ -170,7 +171,14 @@ duplicate≢made n e = let z : _≡_ {A = ℕ} 0 1 = cc in omega arith
 noRoom≢made : (n : ℕ) → NoRoom ≡ Made n → ⊥
 noRoom≢made n e = let z : _≡_ {A = ℕ} 0 1 = cc in omega arith
 
--- ---- what `enter` finds, for each way it can go
+-- what an insertion asks: two bytes or more, and room for the nodes that it may use
+pub two-bytes : {n : ℕ} → 1 ≤ n → (n ≡ 1 → ⊥) → 2 ≤ n
+two-bytes h k = omega (arith, k)
+
+pub within : (n : ℕ) {most : ℕ} → most ≡ min n 4294967295 → most ≤ n
+within n e = omega arith
+
+-- ---- how a token is entered among the others, for each way that `push` can go
 
 module _ {ts : List Token} {s : List ℤ} {os bl rs : List ℕ} {ns : Nodes} {st : Build} (B : Built ts s os bl rs ns st) (t : Token)
     (r : Reads (lastId ts) t) where
@@ -179,12 +187,6 @@ module _ {ts : List Token} {s : List ℤ} {os bl rs : List ℕ} {ns : Nodes} {st
 
   idl : 1 ≤ t .id
   idl = let a = r .above in omega arith
-
-  -- no room even for node 0
-  pub enter-full : min (room ns) 4294967295 < st .made → Grown ts t (room ns) NoRoom rs ns
-  enter-full h =
-      let e = B .made in
-      record { answer = answer-full ts (B .valid) t r (room ns) (B .node-room) (omega arith); stands = λ n k. absurd (noRoom≢made n k) }
 
   module _ (fits : st .made ≤ min (room ns) 4294967295) (one : length (t .bytes) ≡ 1) (b : ℕ) (is : b ≡ getD (t .bytes) 0 0) where
     bytes-are : t .bytes ≡ b ∷ []
@@ -197,7 +199,7 @@ module _ {ts : List Token} {s : List ℤ} {os bl rs : List ℕ} {ns : Nodes} {st
     cell = taken-seen ts low s (B .single) b small ∙ ap (seen ts) (sym bytes-are)
 
     -- one byte, seen before
-    pub enter-twice : isTaken (getD s b (pos 0)) ≡ true → Grown ts t (room ns) Duplicate rs ns
+    enter-twice : isTaken (getD s b (pos 0)) ≡ true → Grown ts t (room ns) Duplicate rs ns
     unfolding answerFor
     enter-twice e = record { answer = sym (yes-case _ _ (sym cell ∙ e)); stands = λ n k. absurd (duplicate≢made n k) }
 
@@ -206,7 +208,7 @@ module _ {ts : List Token} {s : List ℤ} {os bl rs : List ℕ} {ns : Nodes} {st
         ap (λ (l : List ℕ). nodeCount (ts ++ (record { id = t .id; bytes = l } ∷ []))) bytes-are ∙ count-one ts (t .id) b ∙ sym (B .made)
 
     -- one byte, new: no node is made
-    pub enter-one : isTaken (getD s b (pos 0)) ≡ false → Grown ts t (room ns) (Made (st .made)) rs ns
+    enter-one : isTaken (getD s b (pos 0)) ≡ false → Grown ts t (room ns) (Made (st .made)) rs ns
     unfolding answerFor
     enter-one e = record {
       answer = ap Made (sym count-same)
@@ -216,15 +218,31 @@ module _ {ts : List Token} {s : List ℤ} {os bl rs : List ℕ} {ns : Nodes} {st
           (stands-one ts rs ns (t .id) b idl (B .stands));
     }
 
-  -- two bytes or more
-  pub enter-more : (cap : ℕ) → cap ≡ min (room ns) 4294967295 → (rs′ : List ℕ) (ns′ : Nodes) (a : Inserted) → Grown ts t cap a rs′ ns′
-      → Grown ts t (room ns) a rs′ ns′
-  enter-more cap e rs′ ns′ a G = record {
-    answer = G .answer ∙ ap (answerFor ts t) e ∙ answer-cap ts (B .valid) t r (room ns);
-    stands = G .stands;
-  }
+    -- one byte: its cell of `single` decides
+    enter-byte : (a : Inserted) → a ≡ oneEntered s (st .made) b → Grown ts t (room ns) a rs ns
+    enter-byte a e = subst (λ (x : Inserted). Grown ts t (room ns) x rs ns) (sym e) (go (isTaken (getD s b (pos 0))) refl)
+      where
+        go : (y : Bool) → isTaken (getD s b (pos 0)) ≡ y → Grown ts t (room ns) (oneEntered s (st .made) b) rs ns
+        go true y = subst (λ (x : Inserted). Grown ts t (room ns) x rs ns) (sym (yes-case _ _ y)) (enter-twice y)
+        go false y = subst (λ (x : Inserted). Grown ts t (room ns) x rs ns) (sym (no-case _ _ y)) (enter-one y)
 
--- ---- what 16 to 18 say, for each answer of `enter`
+  -- two bytes or more: the answer of an insertion with room for as many nodes as 32 bits count
+  pub enter-more : (cap : ℕ) → cap ≡ min (room ns) 4294967295 → (rs′ : List ℕ) (ns′ : Nodes) (a : Inserted)
+      → (Stands ts rs ns → st .made ≡ nodeCount ts → 1 ≤ t .id → Grown ts t cap a rs′ ns′) → Grown ts t (room ns) a rs′ ns′
+  enter-more cap e rs′ ns′ a inserted =
+      let G = inserted (B .stands) (B .made) idl in
+      record { answer = G .answer ∙ ap (answerFor ts t) e ∙ answer-cap ts (B .valid) t r (room ns); stands = G .stands }
+
+-- one byte of a run: n is 1
+pub enter-first : {ts : List Token} {s : List ℤ} {os bl rs : List ℕ} {ns : Nodes} {st : Build} → Built ts s os bl rs ns st
+    → (id n : ℕ) (l : List ℕ) → Reads (lastId ts) (record { id = id; bytes = take n l }) → st .made ≤ min (room ns) 4294967295
+    → n ≤ length l → n ≡ 1 → (a : Inserted) → a ≡ oneEntered s (st .made) (getD l 0 0)
+    → Grown ts (record { id = id; bytes = take n l }) (room ns) a rs ns
+enter-first B id n l r fits h e a ea =
+    enter-byte B (record { id = id; bytes = take n l }) r fits (length-take-le n l h ∙ e) (getD l 0 0)
+    (sym (getD-take n l 0 0 (omega arith))) a ea
+
+-- ---- what 16 to 18 say, for each way a token was entered
 
 module _ (ts : List Token) (t : Token) (ns : Nodes) (bl rs′ : List ℕ) (ns′ : Nodes) (table : ℕ) where
   abbrev R : Room
@@ -423,7 +441,16 @@ pub offsets-kept : (os : List ℕ) (previous id total : ℕ) → previous < id �
 offsets-kept os previous id total h k =
     run-behind (replicate (id - previous) total) os (previous + 1) 65537 (let l = length-replicate (id - previous) total in omega arith)
 
--- ---- what `push` answers, for each answer of `enter`
+-- ---- what `push` answers, for each way a token was entered
+
+-- no room even for node 0
+pub pushed-none : {ts : List Token} {s : List ℤ} {os bl rs : List ℕ} {ns : Nodes} {st : Build} → Built ts s os bl rs ns st → (t : Token)
+    (table : ℕ) (p : Pushed) → p ≡ noRoom → min (room ns) 4294967295 < st .made → PushedAs (roomFor ns bl table) ts t p s os bl rs ns
+pushed-none {ts} {s} {os} {bl} {rs} {ns} B t table p e h =
+    subst (λ (x : Pushed). PushedAs (roomFor ns bl table) ts t x s os bl rs ns) (sym e) (push-full ts t ns bl rs ns table (record {
+      answer = answer-full ts (B .valid) t (room ns) (B .node-room) (let k = B .made in omega arith);
+      stands = λ n k. absurd (noRoom≢made n k);
+    }))
 
 -- a token with an id above the last one and 1 to 255 bytes
 pub reads-of : {ts : List Token} {s : List ℤ} {os bl rs : List ℕ} {ns : Nodes} {st : Build} → Built ts s os bl rs ns st → (t : Token)

@@ -147,10 +147,11 @@ fn set_offsets(offsets: &mut [u32], previous: u16, id: u16, total: u32)
     fill::fill_u32(offsets, index(previous) + 1, index(id - previous), total);
 }
 
-fn no_room() -> trie::Inserted
+// Refused for want of nodes: 17.
+fn no_room() -> Pushed
     ensures { λ r. ⌜ r ≡ noRoom ⌝ }
 {
-    trie::Inserted::NoRoom
+    Pushed::Refused(17)
 }
 
 // A token of one byte makes no node: seen before, or as many nodes as before.
@@ -170,34 +171,6 @@ fn is_full(most: u32, made: u32) -> bool
     ensures { λ r. ⌜ r ≡ ltb most made ⌝ }
 {
     most < made
-}
-
-// The token's bytes, the first n, among the nodes, or 16 or 17.
-fn enter(
-    single: &[i32],
-    roots: &mut [u64],
-    nodes: &mut [Node],
-    st: Build,
-    id: u16,
-    bytes: &[u8],
-    n: usize,
-) -> trie::Inserted
-    requires { ⌜ (256 ≤ length (now single)) × (65536 ≤ length (now roots)) × (1 ≤ n) × (n ≤ length (now bytes)) × (1 ≤ st .made) ⌝ }
-    ensures stands { λ r. ⌜ ((ts : List Token) (os bl : List ℕ)
-        → Built ts (now (single .entry)) os bl (now (roots .entry)) (now (nodes .entry)) st
-        → Reads (lastId ts) (record { id = id; bytes = take n (now (bytes .entry)) })
-        → Grown ts (record { id = id; bytes = take n (now (bytes .entry)) }) (room (now (nodes .entry))) r (now (roots .exit))
-        (now (nodes .exit))) ⌝ }
-    ensures kept { λ r. ⌜ RootsKept (now (roots .entry)) (now (roots .exit)) ⌝ }
-{
-    let most = capacity(nodes.len());
-    if is_full(most, st.made) {
-        return no_room();
-    }
-    if n == 1 {
-        return enter_one(single, st.made, bytes);
-    }
-    trie::insert(roots, nodes, most, st.made, bytes, n, id)
 }
 
 // The token's own cells.
@@ -282,7 +255,15 @@ pub fn push(
     ensures kept { λ r. ⌜ Kept (now (single .entry)) (now (offsets .entry)) (now (roots .entry))
         (now (single .exit)) (now (offsets .exit)) (now (roots .exit)) ⌝ }
 {
-    let entered = enter(single, roots, nodes, st, id, bytes, n);
+    let most = capacity(nodes.len());
+    if is_full(most, st.made) {
+        return no_room();
+    }
+    if n == 1 {
+        let entered = enter_one(single, st.made, bytes);
+        return push_entered(single, offsets, blob, st, id, bytes, n, entered);
+    }
+    let entered = trie::insert(roots, nodes, most, st.made, bytes, n, id);
     push_entered(single, offsets, blob, st, id, bytes, n, entered)
 }
 

@@ -1,5 +1,6 @@
 -- The capacity that is searched, and what the code's answers say of it. Assumes nothing.
-use mathlib.Core.Path.{_≡_, refl, sym, ap, _∙_}
+use mathlib.Core.Path.{_≡_, refl, sym, ap, _∙_, subst}
+use mathlib.Core.Bool.{true, false}
 use mathlib.Core.List.{List, map}
 use Prim.Native.Nat.{ℕ, _+_, _-_, _*_, _^_, _≤_, _<_, min}
 use native.Mathlib.Omega.{arith}
@@ -19,9 +20,9 @@ use Rattle.packing.specs.Search.{Bounds}
 use Rattle.packing.proofs.Steps.{yes-case, no-case}
 use Rattle.packing.specs.Nodes.{blocks, nodeWrites, rootWord, rootWords}
 use Rattle.packing.proofs.Filled.{Based, nodes-are, table-padded, roots-over}
-use Rattle.packing.specs.Walk.{Through}
+use Rattle.packing.specs.Walk.{Through, Ended}
 use Rattle.packing.specs.Answer.{capacity, answerFor, PackedAs}
-use Rattle.packing.proofs.Walked.{through-based}
+use Rattle.packing.proofs.Walked.{ended-full, ended-open, through-based}
 use Rattle.packing.specs.declared.Packed.{Packed}
 use Rattle.packing.specs.declared.Packed.the-variants.{Words, NoRoom}
 use Rattle.packing.specs.declared.Front.{Front}
@@ -29,7 +30,7 @@ use Rattle.packing.specs.declared.Front.{Front}
 -- ---- the words of marks that are searched
 
 module _ (t u b end : ℕ) (is : end ≡ 4 * min (blocks t u b) 16777215) where
-  pub end-zero : end ≡ 0 → capacity t u b ≡ 0
+  end-zero : end ≡ 0 → capacity t u b ≡ 0
   unfolding capacity
   end-zero z = omega arith
 
@@ -44,18 +45,18 @@ module _ (t u b end : ℕ) (is : end ≡ 4 * min (blocks t u b) 16777215) where
   }
 
   -- more blocks than 2^24 - 1 are never needed
-  pub end-past : (ts : List Token) → Valid ts → end * 64 < words (puts ts) → capacity t u b < tableWords ts
+  end-past : (ts : List Token) → Valid ts → end * 64 < words (puts ts) → capacity t u b < tableWords ts
   unfolding capacity tableWords words
   end-past ts v h = let s = small in omega arith
     where
       small : 256 * (1 + top (puts ts)) < 2 ^ 32
       small = tableWords-small ts v
 
-  pub end-room : end * 64 ≤ capacity t u b
+  end-room : end * 64 ≤ capacity t u b
   unfolding capacity
   end-room = omega arith
 
-pub capacity-le : (t u b : ℕ) → capacity t u b ≤ t
+capacity-le : (t u b : ℕ) → capacity t u b ≤ t
 unfolding capacity
 capacity-le t u b = omega arith
 
@@ -64,7 +65,7 @@ capacity-le t u b = omega arith
 not-words : {r : Packed} {n : ℕ} → r ≡ NoRoom → r ≡ Words n → ⊥
 not-words p q = let z : _≡_ {A = ℕ} 0 1 = cc in omega arith
 
-pub past-answer : (ts : List Token) (cap : ℕ) (rs t rs' t' : List ℕ) → cap < tableWords ts → PackedAs ts cap rs t NoRoom rs' t'
+past-answer : (ts : List Token) (cap : ℕ) (rs t rs' t' : List ℕ) → cap < tableWords ts → PackedAs ts cap rs t NoRoom rs' t'
 unfolding answerFor
 past-answer ts cap rs t rs' t' h = record {
   answer = sym (no-case _ _ (lt-leb (tableWords ts) cap h));
@@ -72,13 +73,13 @@ past-answer ts cap rs t rs' t' h = record {
   roots = λ n e. absurd (not-words refl e);
 }
 
-pub words-pos : (ts : List Token) → 0 < tableWords ts
+words-pos : (ts : List Token) → 0 < tableWords ts
 unfolding tableWords words
 words-pos ts = omega arith
 
 module _ (ts : List Token) (v : Valid ts) (cap made w : ℕ) (rs : List ℕ) (m₀ : Nodes) (t : List ℕ) (m : Nodes) (t' rs' : List ℕ)
     (at : Front) (end : ℕ) where
-  pub fits-answer : Stands ts rs m₀ → made ≡ nodeCount ts → 65536 ≤ length rs → cap ≤ length t → end * 64 ≤ cap
+  fits-answer : Stands ts rs m₀ → made ≡ nodeCount ts → 65536 ≤ length rs → cap ≤ length t → end * 64 ≤ cap
       → Through (nodes ts) (idOf ts) (puts ts) m at end → w ≡ 256 * (1 + at .high)
       → t' ≡ fold write (replicate (length t) 0) (nodeWrites (see m) made (made - 1) 1)
       → rs' ≡ rootWords (rootWord (see m) made) rs
@@ -102,10 +103,51 @@ module _ (ts : List Token) (v : Valid ts) (cap made w : ℕ) (rs : List ℕ) (m�
       fit = let h = T .room in omega arith
 
 -- the cells past the roots stay as they were
-pub roots-behind : (f : ℕ → ℕ) (rs rs' : List ℕ) → 65536 ≤ length rs → rs' ≡ rootWords f rs → RootsKept rs rs'
+roots-behind : (f : ℕ → ℕ) (rs rs' : List ℕ) → 65536 ≤ length rs → rs' ≡ rootWords f rs → RootsKept rs rs'
 unfolding rootWords
 roots-behind f rs rs' h e =
     record {
       behind = ap (drop 65536) e ∙ drop-at (map f (take 65536 rs)) (drop 65536 rs) 65536 (length-map (take 65536 rs) f
           ∙ length-take-le 65536 rs h);
     }
+
+-- ---- what the code answers
+
+pub few : (b : ℕ) {high end : ℕ} → high * 4 + 4 ≤ end → end ≡ 4 * min b 16777215 → high < 16777215
+few b h e = omega arith
+
+module _ (made end t u b : ℕ) (ee : end ≡ 4 * min (blocks t u b) 16777215) (m : Nodes) (rs ta : List ℕ) where
+  abbrev pub Answers : Packed → List ℕ → List ℕ → Type 0
+  Answers r rs' ta' =
+      ((ts : List Token) → Valid ts → Stands ts rs m → made ≡ nodeCount ts → PackedAs ts (capacity t u b) rs ta r rs' ta')
+      × RootsKept rs rs'
+
+  past : (r : Packed) → r ≡ NoRoom
+      → ((ts : List Token) → Valid ts → Stands ts rs m → made ≡ nodeCount ts → capacity t u b < tableWords ts) → Answers r rs ta
+  past r er h = (
+    (λ ts v S em. subst (λ (x : Packed). PackedAs ts (capacity t u b) rs ta x rs ta) (sym er)
+        (past-answer ts (capacity t u b) rs ta rs ta (h ts v S em))),
+    record { behind = refl },
+  )
+
+  -- no whole block
+  pub no-block : (r : Packed) → r ≡ NoRoom → end ≡ 0 → Answers r rs ta
+  no-block r er z = past r er (λ ts v S em. let c = end-zero t u b end ee z in let w = words-pos ts in omega arith)
+
+  module _ (zs : Nodes) (front : Front) (placed : (ts : List Token) (rs : List ℕ) → Valid ts → Stands ts rs m → made ≡ nodeCount ts
+      → Ended (nodes ts) (idOf ts) (puts ts) zs front end) where
+    -- a node found no slot
+    pub no-slot : (r : Packed) → r ≡ NoRoom → front .full ≡ true → Answers r rs ta
+    no-slot r er y = past r er (λ ts v S em. end-past t u b end ee ts v (ended-full (placed ts rs v S em) y))
+
+    -- all nodes have their words; tc is the table with zeros
+    pub all-put : (r : Packed) (rs' tc ta' : List ℕ) → r ≡ Words (256 * (1 + front .high)) → front .full ≡ false → t ≡ length ta
+        → 65536 ≤ length rs → tc ≡ replicate (length ta) 0 → ta' ≡ fold write tc (nodeWrites (see zs) made (made - 1) 1)
+        → rs' ≡ rootWords (rootWord (see zs) made) rs → Answers r rs' ta'
+    all-put r rs' tc ta' er y et hr ec etable eroots = (
+      (λ ts v S em. subst (λ (x : Packed). PackedAs ts (capacity t u b) rs ta x rs' ta') (sym er)
+          (fits-answer ts v (capacity t u b) made (256 * (1 + front .high)) rs m ta zs ta' rs' front end S em hr
+          (subst (λ (x : ℕ). capacity t u b ≤ x) et (capacity-le t u b)) (end-room t u b end ee) (ended-open (placed ts rs v S em) y) refl
+          (etable ∙ ap (λ (x : List ℕ). fold write x (nodeWrites (see zs) made (made - 1) 1)) ec) eroots)),
+      roots-behind (rootWord (see zs) made) rs rs' hr eroots,
+    )

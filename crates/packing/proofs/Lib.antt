@@ -5,7 +5,8 @@ pub mod Steps
 pub mod Place
 pub mod Chosen
 pub mod Turns
+pub mod Roots
 pub mod Filled
 pub mod Walked
-pub mod Calls
+pub mod Chained
 pub mod Answered

@@ -5,7 +5,7 @@ use mathlib.Core.Bool.{Bool, true, false, not, cond}
 use mathlib.Core.List.{List}
 use Prim.Native.Nat.{ℕ, _+_, _-_, _*_, _/_, _≤_, _<_}
 use native.Mathlib.Omega.{arith}
-use lib.Dec.{eqb, leb, ltb}
+use lib.Dec.{T, eqb, leb, ltb}
 use lib.ListN.{length, getD, set}
 use lib.Bits.{bitXor}
 use borrow.Author.Tests.{eq-eqb, ne-eqb, eqb-true, eqb-false, le-leb, lt-leb, lt-ltb, le-ltb, leb-true, ltb-true}
@@ -21,6 +21,15 @@ yes-case {A} a b e = ap (λ (d : Bool). cond d a b) e
 
 pub no-case : {A : Type 0} (a b : A) {c : Bool} → c ≡ false → cond c a b ≡ b
 no-case {A} a b e = ap (λ (d : Bool). cond d a b) e
+
+-- what a flag that is tested says
+pub holds : (b : Bool) → T b → b ≡ true
+holds true _ = refl
+holds false h = absurd h
+
+pub fails : (b : Bool) → T (not b) → b ≡ false
+fails true h = absurd h
+fails false _ = refl
 
 -- ---- placing
 

@@ -5,7 +5,7 @@ use mathlib.Core.Bool.{true, false, not}
 use mathlib.Core.List.{List, [], _∷_, List·Memᴰ as Mem, List·Memᴰ·head as here, List·Memᴰ·tail as there}
 use Prim.Native.Nat.{ℕ, zero, suc, _+_, _-_, _*_, _/_, _%_, _≤_, _<_}
 use native.Mathlib.Omega.{arith}
-use lib.ListN.{length, getD, replicate}
+use lib.ListN.{length, getD, take, replicate}
 use lib.Dec.{eqb}
 use Rattle.spec.specs.Lists.{any, fold}
 use Rattle.spec.specs.Token.{Token, idOf}
@@ -18,15 +18,19 @@ use Rattle.laws.specs.Nodes.{ByteLabels, labels-small, order-find}
 use Rattle.laws.specs.Numbered.{number}
 use Rattle.laws.specs.Perm.{bit}
 use Rattle.laws.specs.Search.{marked}
-use Rattle.trie.specs.Run.{Nodes, room, see}
+use Rattle.trie.specs.Run.{Nodes, room, see, setNode, set-seen}
+use Rattle.trie.specs.Tails.{setTail}
+use Rattle.trie.specs.Stands.{Tree}
+use Rattle.trie.specs.Gather.{Gathered, gathered-take}
+use Rattle.trie.specs.declared.Node.{Node}
 use Rattle.trie.specs.Chains.{number-lt}
 use Rattle.trie.specs.Queue.{Queued, Ordered, queue-on, queue-step, queue-end, queue-short}
 use Rattle.packing.specs.Search.{Below, Bounds, openOn}
 use Rattle.packing.proofs.Find.{bit-of-zero}
 use Rattle.packing.specs.Going.{Going, FrontOk, PlacedAt, PlacedOr}
-use Rattle.packing.specs.Walk.{Amid, Through, Short, Ended, Within}
+use Rattle.packing.specs.Walk.{Amid, Through, Short, Ended, Within, Turn}
 use Rattle.packing.proofs.Chosen.{front-then}
-use Rattle.packing.specs.Nodes.{keptOn, passedOn}
+use Rattle.packing.specs.Nodes.{keptIn, keptOn, passedOn}
 use Rattle.packing.proofs.Filled.{Based}
 use Rattle.packing.specs.declared.Placed.{Placed}
 use Rattle.packing.specs.declared.Placed.the-variants.{At, Full}
@@ -172,6 +176,34 @@ passed-within U at end (At b) f h four k = record {
   high-le = omega arith;
 }
 passed-within U at end Full f h four k = record { from-le = f; high-le = h }
+
+kept-stored : (m : Nodes) (node : ℕ) (p : Placed) → setNode m node (keptIn (see m node) p) ≡ keptOn m node p
+unfolding setTail
+kept-stored m node (At b) = refl
+kept-stored m node Full = set-seen m node
+
+-- the turn of a node, as the code has it: by its n labels, which stand at the start of cells', its answer is p
+module _ (made node n end : ℕ) (m m' : Nodes) (U B C cells U' B' C' cells' : List ℕ) (at r : Front) (p : Placed) (old new : Node) where
+  pub turned : node < room m → Bounds U B (at .from) end → at .high * 4 + 4 ≤ end
+      → ((ps : List (List ℕ)) (I : List ℕ → ℕ) (q : List ℕ) → Tree ps I m → made ≡ suc (length ps) → Mem q ps → node ≡ number ps q
+      → Gathered (labels ps q) cells cells' n)
+      → ((L : List ℕ → List ℕ) (xs : List Put) (q : List ℕ) (high : ℕ) → take n cells' ≡ L q → 1 ≤ n
+      → Going L xs U B C (at .from) high end → PlacedOr L xs q end U' B' C' p)
+      → Below (end * 64) p → old ≡ see m node → new ≡ keptIn old p → m' ≡ setNode m node new → r ≡ passedOn U' at end p
+      → Turn made node m U B C at end m' U' B' C' r × Within r end
+  turned fit bounds high labelled stands small eo en em er = (
+    (λ ps I goal fuel e z A.
+        let N = next ps I goal m U B C node fuel at end A z in
+        let g = labelled ps I (N .whose) (A .queue .tree) e (in-nodes ps I goal m U B C node fuel at end A N)
+        (number-now ps I goal m U B C node fuel at end A N) in
+        let some = subst (λ (k : ℕ). 1 ≤ k) (sym (g .count)) (some-now ps I goal m U B C node fuel at end A N) in
+        after ps I goal m U B C node fuel at end A N m' U' B' C' p r fit kept er bounds
+        (stands (labels ps) (A .xs) (N .whose) (at .high) (gathered-take g) some (A .going)) small),
+    subst (λ (x : Front). Within x end) (sym er) (passed-within U' at end p (bounds .from-le) high (bounds .blocks) small),
+  )
+    where
+      kept : m' ≡ keptOn m node p
+      kept = em ∙ ap (setNode m node) (en ∙ ap (λ (x : Node). keptIn x p) eo) ∙ kept-stored m node p
 
 -- ---- the beginning
 

@@ -1,6 +1,6 @@
 -- What the code does with the nodes of any memory: the base that is kept in a node, the words of its children, the words of the roots.
 -- Assumes nothing.
-use mathlib.Core.Bool.{Bool, true, false, cond}
+use mathlib.Core.Bool.{true, false, cond}
 use mathlib.Core.List.{List, [], _∷_, _++_, map}
 use Prim.Native.Nat.{ℕ, zero, suc, _/_, max, min}
 use lib.Dec.{eqb, leb}
@@ -9,6 +9,7 @@ use lib.ListN.{take, drop}
 use Rattle.spec.specs.Layout.{pack}
 use Rattle.laws.specs.Fill.{Write}
 use Rattle.trie.specs.Run.{Nodes}
+use Rattle.trie.specs.Insertion.{withTail}
 use Rattle.trie.specs.Tails.{setTail}
 use Rattle.trie.specs.declared.Node.{Node}
 use Rattle.packing.specs.Search.{openOn}
@@ -18,16 +19,12 @@ use Rattle.packing.specs.declared.Front.{Front}
 
 -- ---- placing
 
--- whether no slot was found, and the base otherwise
-abbrev pub fullOf : Placed → Bool
-fullOf (At b) = false
-fullOf Full = true
+-- a node with the base that it was given in its field tail
+abbrev pub keptIn : Node → Placed → Node
+keptIn n (At b) = withTail n b
+keptIn n Full = n
 
-abbrev pub baseOf : Placed → ℕ
-baseOf (At b) = b
-baseOf Full = 0
-
--- the base that a node was given, in its field tail
+-- the nodes with that of one of them
 abbrev pub keptOn : Nodes → ℕ → Placed → Nodes
 keptOn m node (At b) = setTail m node b
 keptOn m node Full = m

@@ -1,19 +1,18 @@
 // The packing of a trie: each node with children gets a base, so that its children's words stand at base XOR label, no two at one slot.
 // Where roots and nodes stand for tokens, what is left in roots and table is the layout of these tokens.
 ghost use mathlib.Core.Path.{_≡_};
-ghost use mathlib.Core.List.{List, List·Memᴰ};
-ghost use Prim.Native.Nat.{ℕ, suc, _+_, _-_, _*_, _^_, _<_, _≤_, min, max};
+ghost use mathlib.Core.List.{List};
+ghost use Prim.Native.Nat.{ℕ, _+_, _-_, _*_, _^_, _<_, _≤_, min, max};
 ghost use lib.ListN.{length, take, replicate};
 ghost use Rattle.spec.specs.Token.{Token, idOf};
-ghost use Rattle.spec.specs.Trie.{nodes as nodesOf, nodeCount, labels};
+ghost use Rattle.spec.specs.Trie.{nodes as nodesOf, nodeCount};
 ghost use Rattle.spec.specs.Layout.{Put, puts};
 ghost use Rattle.spec.specs.Valid.{Valid};
-ghost use Rattle.laws.specs.Numbered.{number};
 ghost use Rattle.trie.specs.Run.{room};
-ghost use Rattle.trie.specs.Stands.{Tree, Stands, RootsKept};
+ghost use Rattle.trie.specs.Stands.{Stands, RootsKept};
 ghost use Rattle.packing.specs.Search.{Bounds, Below};
 ghost use Rattle.packing.specs.Going.{Going, PlacedOr};
-ghost use Rattle.packing.specs.Nodes.{fullOf, baseOf, keptOn, passedOn, blocks};
+ghost use Rattle.packing.specs.Nodes.{keptIn, passedOn, blocks};
 ghost use Rattle.packing.specs.Walk.{Turn, Walked, Within, Ended};
 ghost use Rattle.packing.specs.Answer.{capacity, PackedAs};
 
@@ -106,33 +105,15 @@ fn passed(used: &[u64], at: Front, end: usize, p: Placed) -> Front
     }
 }
 
-fn is_full(p: Placed) -> bool
-    ensures { λ r. ⌜ r ≡ fullOf p ⌝ }
+// A node with its base in the field tail, in place of the link to the next node in order; without a base it stays as it is.
+fn kept(n: Node, p: Placed) -> Node
+    requires { ⌜ Below (2 ^ 32) p ⌝ }
+    ensures { λ r. ⌜ r ≡ keptIn n p ⌝ }
 {
-    match p {
-        Placed::At(_) => false,
-        Placed::Full => true,
-    }
-}
-
-fn base_of(p: Placed) -> usize
-    ensures { λ r. ⌜ r ≡ baseOf p ⌝ }
-{
-    match p {
-        Placed::At(base) => base,
-        Placed::Full => 0,
-    }
-}
-
-// A node's base goes into its field tail, in place of the link to the next node in order.
-fn keep(nodes: &mut [Node], node: u32, p: Placed)
-    requires { ⌜ (node < room (now nodes)) × Below (2 ^ 32) p ⌝ }
-    ensures { λ r. ⌜ now (nodes .exit) ≡ keptOn (now (nodes .entry)) node p ⌝ }
-{
-    if is_full(p) {
-        return;
-    }
-    trie::set_tail(nodes, node, narrow(base_of(p)));
+    let Placed::At(base) = p else {
+        return n;
+    };
+    trie::with_tail(n, narrow(base))
 }
 
 // The base of a node whose n labels stand at the start of `labels`. A node without labels needs none.
@@ -157,31 +138,7 @@ fn place_some(
     search::place_labels(used, bases, cursors, from, end, &labels[..n])
 }
 
-// The base of a node, by its labels, which go into the cells lent.
-fn place_gathered(
-    nodes: &[Node],
-    made: u32,
-    node: u32,
-    used: &mut [u64],
-    bases: &mut [u64],
-    cursors: &mut [u32],
-    cells: &mut [u8],
-    from: usize,
-    end: usize,
-) -> Placed
-    requires { ⌜ (node < made) × (made ≤ room (now nodes)) × Bounds (now used) (now bases) from end × (256 ≤ length (now cursors))
-        × (256 ≤ length (now cells)) ⌝ }
-    ensures stands { λ r. ⌜ ((ps : List (List ℕ)) (I : List ℕ → ℕ) (xs : List Put) (p : List ℕ) (high : ℕ) → Tree ps I (now (nodes .entry))
-        → made ≡ suc (length ps) → List·Memᴰ p ps → node ≡ number ps p → 1 ≤ length (labels ps p)
-        → Going (labels ps) xs (now (used .entry)) (now (bases .entry)) (now (cursors .entry)) from high end
-        → PlacedOr (labels ps) xs p end (now (used .exit)) (now (bases .exit)) (now (cursors .exit)) r) ⌝ }
-    ensures small { λ r. ⌜ Below (end * 64) r ⌝ }
-{
-    let n = trie::gather(nodes, made, node, cells);
-    place_some(used, bases, cursors, cells, n, from, end)
-}
-
-// Places the node whose turn it is.
+// Places the node whose turn it is, by its labels, which go into the cells lent.
 fn place_node(
     nodes: &mut [Node],
     made: u32,
@@ -199,8 +156,10 @@ fn place_node(
         (now (nodes .exit)) (now (used .exit)) (now (bases .exit)) (now (cursors .exit)) r ⌝ }
     ensures within { λ r. ⌜ Within r end ⌝ }
 {
-    let p = place_gathered(nodes, made, node, used, bases, cursors, cells, at.from, end);
-    keep(nodes, node, p);
+    let n = trie::gather(nodes, made, node, cells);
+    let p = place_some(used, bases, cursors, cells, n, at.from, end);
+    let old = trie::fetch(nodes, node);
+    trie::store(nodes, node, kept(old, p));
     passed(used, at, end, p)
 }
 
@@ -339,6 +298,8 @@ pub fn pack(
     if front.full {
         return no_room();
     }
-    words::put_all(table, roots, nodes, made);
+    clear(table);
+    words::put_words(table, nodes, made);
+    words::put_roots(roots, nodes, made);
     words_to(front.high)
 }

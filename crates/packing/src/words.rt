@@ -1,7 +1,8 @@
 // The words of the table and of the roots, once each node's base stands in its field tail.
 ghost use mathlib.Core.Path.{_≡_};
-ghost use Prim.Native.Nat.{_+_, _-_, _^_, _≤_, _<_};
-ghost use lib.Dec.{ltb};
+ghost use mathlib.Core.Bool.{cond};
+ghost use Prim.Native.Nat.{_+_, _-_, _≤_, _<_};
+ghost use lib.Dec.{eqb, ltb};
 ghost use lib.Bits.{bitXor};
 ghost use lib.ListN.{length, getD, set, replicate};
 ghost use Rattle.spec.specs.Lists.{fold};
@@ -88,31 +89,11 @@ pub fn put_words(table: &mut [u64], nodes: &[Node], made: u32)
     }
 }
 
-pub fn number(x: u32) -> u64
-    ensures { λ r. ⌜ r ≡ x ⌝ }
-{
-    x as u64
-}
-
-pub fn number_of(root: u64) -> u32
-    requires { ⌜ root < 2 ^ 32 ⌝ }
-    ensures { λ r. ⌜ r ≡ root ⌝ }
-{
-    root as u32
-}
-
 pub fn word_at(words: &[u64], i: usize) -> u64
     requires { ⌜ i < length (now words) ⌝ }
     ensures { λ r. ⌜ r ≡ getD (now (words .entry)) i 0 ⌝ }
 {
     words[i]
-}
-
-// Whether i is the place of a root.
-pub fn is_root(i: usize) -> bool
-    ensures { λ r. ⌜ r ≡ ltb i 65536 ⌝ }
-{
-    i < 65536
 }
 
 pub fn next_root(i: usize) -> usize
@@ -122,50 +103,37 @@ pub fn next_root(i: usize) -> usize
     i + 1
 }
 
-// The word of a node as a root: no byte leads to it.
-pub fn root_word_of(n: Node) -> u64
-    ensures { λ r. ⌜ r ≡ nodeWord n 0 ⌝ }
+// The number of the node that a root holds; 0 if it holds none of those made.
+pub fn root_number(root: u64, made: u32) -> u32
+    ensures { λ r. ⌜ r ≡ cond (ltb root made) root 0 ⌝ }
 {
-    word_of(n, 0)
+    if root < made as u64 {
+        return root as u32;
+    }
+    0
 }
 
-// The word of a root that holds a node's number; 0 if it holds none.
-pub fn root_word(nodes: &[Node], made: u32, root: u64) -> u64
-    requires { ⌜ made ≤ room (now nodes) ⌝ }
-    ensures { λ r. ⌜ r ≡ rootWord (see (now (nodes .entry))) made root ⌝ }
+// The word of node `at` as a root: no byte leads to it. Node 0 is none.
+pub fn root_word_of(n: Node, at: u32) -> u64
+    ensures { λ r. ⌜ r ≡ cond (eqb at 0) 0 (nodeWord n 0) ⌝ }
 {
-    if root == 0 {
+    if at == 0 {
         return 0;
     }
-    if number(made) <= root {
-        return 0;
-    }
-    root_word_of(trie::fetch(nodes, number_of(root)))
+    word_of(n, 0)
 }
 
 // Each of the 65,536 roots becomes the word of its node.
 pub fn put_roots(roots: &mut [u64], nodes: &[Node], made: u32)
-    requires { ⌜ (65536 ≤ length (now roots)) × (made ≤ room (now nodes)) ⌝ }
+    requires { ⌜ (1 ≤ made) × (65536 ≤ length (now roots)) × (made ≤ room (now nodes)) ⌝ }
     ensures { λ r. ⌜ now (roots .exit)
         ≡ rootWords (rootWord (see (now (nodes .entry))) made) (now (roots .entry)) ⌝ }
 {
     let mut i: usize = 0;
-    while is_root(i) {
-        let word = root_word(nodes, made, word_at(roots, i));
-        put_word(roots, i, word);
+    while i < 65536 {
+        let at = root_number(word_at(roots, i), made);
+        let n = trie::fetch(nodes, at);
+        put_word(roots, i, root_word_of(n, at));
         i = next_root(i);
     }
-}
-
-// The words of all nodes, in the table, with zeros elsewhere, and in the roots.
-pub fn put_all(table: &mut [u64], roots: &mut [u64], nodes: &[Node], made: u32)
-    requires { ⌜ (1 ≤ made) × (made ≤ room (now nodes)) × (65536 ≤ length (now roots)) ⌝ }
-    ensures table { λ r. ⌜ now (table .exit)
-        ≡ fold write (replicate (length (now (table .entry))) 0) (nodeWrites (see (now (nodes .entry))) made (made - 1) 1) ⌝ }
-    ensures roots { λ r. ⌜ now (roots .exit)
-        ≡ rootWords (rootWord (see (now (nodes .entry))) made) (now (roots .entry)) ⌝ }
-{
-    clear(table);
-    put_words(table, nodes, made);
-    put_roots(roots, nodes, made);
 }

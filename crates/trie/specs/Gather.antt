@@ -65,7 +65,7 @@ module _ (M : ℕ → Node) (made : ℕ) where
   from-none k c h = let q : 256 - k ≡ 0 = omega arith in ap (λ (x : ℕ). labelsFrom M made x c) q
 
   -- a turn: one label more in out
-  pub from-turn : (out : List ℕ) (k c : ℕ) (n : Node) → k < length out → k < 256 → (c ≡ 0 → ⊥) → c < made → n ≡ M c
+  from-turn : (out : List ℕ) (k c : ℕ) (n : Node) → k < length out → k < 256 → (c ≡ 0 → ⊥) → c < made → n ≡ M c
       → take (k + 1) (set out k (n .label)) ++ labelsFrom M made (256 - (k + 1)) (n .next) ≡ take k out ++ labelsFrom M made (256 - k) c
   from-turn out k c n ho hk z h en =
       let q : k + 1 ≡ suc k = omega arith in
@@ -84,17 +84,36 @@ module _ (M : ℕ → Node) (made : ℕ) where
       ap (labelsFrom M made (suc f)) (k .0) ∙ from-on f c (λ z. let a = k .1 in omega arith) (s c (here refl))
       ∙ ap (λ (r : List ℕ). M c .label ∷ r) (from-chain l f (M c .next) (omega arith) (λ x m. s x (there m)) (k .2))
 
-pub rest-turn : (out out₀ : List ℕ) (k v : ℕ) → drop k out ≡ drop k out₀ → drop (k + 1) (set out k v) ≡ drop (k + 1) out₀
+rest-turn : (out out₀ : List ℕ) (k v : ℕ) → drop k out ≡ drop k out₀ → drop (k + 1) (set out k v) ≡ drop (k + 1) out₀
 rest-turn out out₀ k v e =
     drop-set-lt (k + 1) out k v (omega arith) ∙ sym (drop-drop 1 k out) ∙ ap (drop 1) e ∙ drop-drop 1 k out₀
 
 -- the end: what is left is nothing
-pub gather-all : (out out₀ : List ℕ) (k : ℕ) (ls rest : List ℕ) → k ≤ length out → k ≤ 256 → take k out ++ rest ≡ ls → rest ≡ []
+gather-all : (out out₀ : List ℕ) (k : ℕ) (ls rest : List ℕ) → k ≤ length out → k ≤ 256 → take k out ++ rest ≡ ls → rest ≡ []
     → drop k out ≡ drop k out₀ → Gathered ls out₀ out k
 gather-all out out₀ k ls rest ho hk e z d =
     let t : take k out ≡ ls = sym (append-nil (take k out)) ∙ ap (λ (l : List ℕ). take k out ++ l) (sym z) ∙ e in
     let n : k ≡ length ls = sym (length-take-le k out ho) ∙ ap length t in
     record { count = n; cells = sym (take-append-drop k out) ∙ ap₂ _++_ t (d ∙ ap (λ (x : ℕ). drop x out₀) n); few = hk }
+
+-- k labels of a node stand in out, and those from node c on are to come
+module _ (m : Nodes) (made node : ℕ) (out₀ : List ℕ) where
+  abbrev pub Partly : List ℕ → ℕ → ℕ → Type 0
+  Partly out c k = (k ≤ 256) × (take k out ++ labelsFrom (see m) made (256 - k) c ≡ labelsOn m made node) × (drop k out ≡ drop k out₀)
+
+  pub partly-start : (n : Node) → n ≡ see m node → Partly out₀ (n .head) 0
+  unfolding labelsOn
+  partly-start n e = (omega arith, ap (λ (x : Node). labelsFrom (see m) made 256 (x .head)) e, refl)
+
+  pub partly-on : (out out' : List ℕ) (c k k' : ℕ) (n : Node) → k < length out → k < 256 → (c ≡ 0 → ⊥) → c < made → n ≡ see m c
+      → out' ≡ set out k (n .label) → k' ≡ k + 1 → Partly out c k → Partly out' (n .next) k'
+  partly-on out out' c k k' n ho hk z h en eo ek p =
+      subst (Partly out' (n .next)) (sym ek) (subst (λ (l : List ℕ). Partly l (n .next) (k + 1)) (sym eo)
+      (omega arith, from-turn (see m) made out k c n ho hk z h en ∙ p .1, rest-turn out out₀ k (n .label) (p .2)))
+
+  pub partly-all : (out : List ℕ) (c k : ℕ) → 256 ≤ length out → labelsFrom (see m) made (256 - k) c ≡ [] → Partly out c k
+      → Gathered (labelsOn m made node) out₀ out k
+  partly-all out c k len e p = gather-all out out₀ k _ _ (omega (arith, p)) (p .0) (p .1) e (p .2)
 
 -- ---- where the memory holds a tree
 

@@ -1,5 +1,5 @@
 -- Insertion is right: where roots and nodes stand for tokens, the answer is that of the table of refusals, and afterwards they stand for
--- the tokens with this one. `insert-right` is what the contract of `insert` cites; `stands-none` and `stands-one` are for the builder: the
+-- the tokens with this one. `insert-means` is what the contract of `insert` cites; `stands-none` and `stands-one` are for the builder: the
 -- start, and tokens of one byte, which make no node. Assumes nothing.
 use mathlib.Core.Path.{_≡_, refl, sym, ap, ap₂, _∙_, subst}
 use mathlib.Core.Logic.{_⊎_, inl, inr}
@@ -9,8 +9,8 @@ use mathlib.Core.List.{List·Memᴰ·not-nil as not-nil, Memᴰ·append-right as
 use Prim.Native.Nat.{ℕ, suc, _+_, _*_, _≤_, _<_}
 use native.Mathlib.Omega.{arith}
 use lib.Dec.{eqb, leb}
-use lib.ListN.{length, getD, set, drop, length-append}
-use lib.Seq.{drop-set-lt}
+use lib.ListN.{length, getD, set, take, drop, length-append}
+use lib.Seq.{drop-set-lt, length-take-le}
 use borrow.Author.Tests.{eqb-true, eqb-false, eq-eqb, ne-eqb, le-leb, lt-leb, leb-true, leb-false}
 use Rattle.spec.specs.Lists.{any, fold, same, has, Bytes}
 use Rattle.spec.specs.Token.{Token, idOf, seen}
@@ -27,6 +27,7 @@ use Rattle.trie.specs.Turns.{yes-case, no-case, made-old, made-full, mad
 use Rattle.trie.specs.Turns.{root-old, fin-none, fin-twice, fin-made, Sound, desc-sound, root-sound}
 use Rattle.trie.specs.Stands.{num, Growing, Stands, answerFor, Grown, RootsKept}
 use Rattle.trie.specs.Chains.{snoc-mem, member, num-in, num-out, number-pos, number-lt, number-new, find-child}
+use Rattle.trie.specs.Chains.{known-taken, bytes-taken}
 use Rattle.trie.specs.Child.{child-keeps, root-keeps, id-keeps}
 use Rattle.trie.specs.declared.Inserted.{Inserted}
 use Rattle.trie.specs.declared.Inserted.the-variants.{Duplicate, NoRoom, Made}
@@ -451,3 +452,17 @@ insert-keeps most rs ns made bs id h k rs′ ns′ a e =
       behind = ap (λ (x : After). drop 65536 (x .roots)) e
           ∙ roots-kept rs at made (eqb (getD rs at 0) 0) (leb most made) (leb made (getD rs at 0)) _ _ _ _ (omega arith);
     }
+
+-- both, of the first n bytes
+pub insert-means : (cap : ℕ) (rs : List ℕ) (m : Nodes) (made id n : ℕ) (bytes rs' : List ℕ) (m' : Nodes) (r : Inserted)
+    → after rs' m' r ≡ insertOn cap rs m made (take n bytes) id → 65536 ≤ length rs → 2 ≤ n → n ≤ length bytes → made ≤ cap → cap ≤ room m
+    → id < 65536 → ((k : ℕ) → getD bytes k 0 < 256)
+    → ((ts : List Token) → Stands ts rs m → made ≡ nodeCount ts → 1 ≤ id
+    → Grown ts (record { id = id; bytes = take n bytes }) cap r rs' m') × RootsKept rs rs'
+insert-means cap rs m made id n bytes rs' m' r e many two enough have fit hid known =
+    let t = known-taken n bytes known in
+    let b = bytes-taken n bytes known in
+    let long = subst (λ (k : ℕ). 2 ≤ k) (sym (length-take-le n bytes enough)) two in (
+      (λ ts S em low. insert-right ts rs m S cap fit many made em have (take n bytes) long b id low hid rs' m' r e),
+      insert-keeps cap rs m made (take n bytes) id (t 0) (t 1) rs' m' r e,
+    )

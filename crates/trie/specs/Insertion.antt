@@ -8,6 +8,7 @@ use lib.Dec.{eqb, leb}
 use lib.ListN.{getD, set, drop}
 use Rattle.trie.specs.Run.{Nodes, see, setNode}
 use Rattle.trie.specs.declared.Node.{Node}
+use Rattle.trie.specs.declared.Place.{Place}
 use Rattle.trie.specs.declared.Rooting.{Rooting}
 use Rattle.trie.specs.declared.Inserted.{Inserted}
 use Rattle.trie.specs.declared.Inserted.the-variants.{Duplicate, NoRoom, Made}
@@ -28,6 +29,10 @@ grown p new = record {
   count = (p .count + 1) % 2 ^ 16;
   label = p .label;
 }
+
+-- the last child of p, new where p has none below it
+unfoldable pub lastChild : Node → ℕ → ℕ
+lastChild p new = cond (eqb (p .head) 0) new (cond (leb new (p .tail)) new (p .tail))
 
 abbrev pub withTail : Node → ℕ → Node
 withTail n t = record { head = n .head; tail = t; next = n .next; term = n .term; count = n .count; label = n .label }
@@ -101,8 +106,12 @@ rootMade cap rs m made at b =
     (cond (leb made (getD rs at 0)) (rooted rs (state m 0 made)) (rooted rs (state m (getD rs at 0) made)))
 
 -- what a root that was found gives: the nodes with a leaf more where one is to be made
-abbrev pub rootGiven : List ℕ → Rooting → Nodes → ℕ → ℕ → Rooted
-rootGiven rs r m made b = rooted rs (state (cond (r .new) (setNode m made (leaf b)) m) (r .place .node) (r .place .made))
+abbrev pub rootGiven : List ℕ → Rooting → Nodes → ℕ → Rooted
+rootGiven rs r m b = rooted rs (state (cond (r .new) (setNode m (r .place .node) (leaf b)) m) (r .place .node) (r .place .made))
+
+-- the node of a root that was found: a leaf where it is to be made, else n
+abbrev pub rootNode : Node → Rooting → ℕ → Node
+rootNode n r b = cond (r .new) (leaf b) n
 
 -- ---- a token
 
@@ -120,6 +129,14 @@ finishOn s id =
     (cond (eqb (see (s .mem) (s .node) .term) 0)
     (ended (setNode (s .mem) (s .node) (withTerm (see (s .mem) (s .node)) id)) (Made (s .made)))
     (ended (s .mem) Duplicate))
+
+-- n, the node at a place, as the end of the token of this id; as it is where it is node 0 or a token ends there
+abbrev pub withEnd : Node → Place → ℕ → Node
+withEnd n at id = cond (eqb (at .node) 0) n (cond (eqb (n .term) 0) (withTerm n id) n)
+
+-- what is answered where a token leads to a place, whose node is n
+abbrev pub answerAt : Node → Place → Inserted
+answerAt n at = cond (eqb (at .node) 0) NoRoom (cond (eqb (n .term) 0) (Made (at .made)) Duplicate)
 
 pub record After : Type 0 where
   pub roots : List ℕ

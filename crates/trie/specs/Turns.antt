@@ -1,17 +1,21 @@
 -- One equation for each way a definition of Insertion can go, and what insertion keeps on any memory. For the proofs. Assumes nothing.
 use mathlib.Core.Path.{_≡_, refl, sym, ap, ap₂, _∙_, subst}
-use mathlib.Core.Bool.{Bool, true, false, cond}
+use mathlib.Core.Bool.{Bool, true, false, not, cond}
 use mathlib.Core.List.{List, [], _∷_}
 use Prim.Native.Nat.{ℕ, zero, suc, _+_, _-_, _*_, _≤_, _<_}
 use native.Mathlib.Omega.{arith}
 use lib.Dec.{eqb, leb}
-use lib.ListN.{length, getD, drop, set, drop-of-length-le}
-use lib.Seq.{drop-cons}
+use lib.ListN.{length, getD, drop, set, take, drop-of-length-le}
+use lib.Seq.{drop-cons, getD-take}
 use borrow.Author.Tests.{eq-eqb, ne-eqb, le-leb, lt-leb, leb-false}
-use Rattle.trie.specs.Run.{Nodes, see, setNode, length-setNode}
-use Rattle.trie.specs.Insertion.{leaf, grown, withNext, withTerm, find, childOf, linkLast, addChild, State, state, childMade}
-use Rattle.trie.specs.Insertion.{descendOn, Rooted, rooted, rootMade, Ended, ended, finishOn, after, insertOn}
+use Rattle.trie.specs.Run.{Nodes, see, setNode, length-setNode, set-seen, set-over, set-swap, see-other}
+use Rattle.trie.specs.Insertion.{leaf, grown, withNext, lastChild, withTerm, find, childOf, linkLast, addChild, State, state}
+use Rattle.trie.specs.Insertion.{childMade, descendOn, Rooted, rooted, rootMade, rootGiven, rootNode, Ended, ended, finishOn}
+use Rattle.trie.specs.Insertion.{withEnd, answerAt, after, insertOn}
 use Rattle.trie.specs.declared.Node.{Node}
+use Rattle.trie.specs.declared.Place.{Place}
+use Rattle.trie.specs.declared.Rooting.{Rooting}
+use Rattle.trie.specs.declared.Inserted.{Inserted}
 use Rattle.trie.specs.declared.Inserted.the-variants.{Duplicate, NoRoom, Made}
 
 -- ---- a choice
@@ -21,6 +25,10 @@ yes-case a b e = ap (λ (d : Bool). cond d a b) e
 
 pub no-case : {A : Type 0} (a b : A) {c : Bool} → c ≡ false → cond c a b ≡ b
 no-case a b e = ap (λ (d : Bool). cond d a b) e
+
+pub turned : (c : Bool) {r d : Bool} → r ≡ not c → r ≡ d → c ≡ not d
+turned true e q = ap not (sym e ∙ q)
+turned false e q = ap not (sym e ∙ q)
 
 -- ---- find
 
@@ -86,16 +94,55 @@ pub last-none : (m : Nodes) (p : Node) (new : ℕ) → p .head ≡ 0 → linkLas
 unfolding linkLast
 last-none m p new e = yes-case _ _ (eq-eqb (p .head) 0 e)
 
-pub last-out : (m : Nodes) (p : Node) (new : ℕ) → (p .head ≡ 0 → ⊥) → new ≤ p .tail → linkLast m p new ≡ m
-unfolding linkLast
-last-out m p new z h = no-case _ _ (ne-eqb (p .head) 0 z) ∙ yes-case _ _ (le-leb new (p .tail) h)
-
 pub last-next : (m : Nodes) (p : Node) (new : ℕ) (n : Node) → (p .head ≡ 0 → ⊥) → p .tail < new → n ≡ see m (p .tail)
     → linkLast m p new ≡ setNode m (p .tail) (withNext n new)
 unfolding linkLast
 last-next m p new n z h q =
     no-case _ _ (ne-eqb (p .head) 0 z) ∙ no-case _ _ (lt-leb new (p .tail) h)
     ∙ ap (λ (x : Node). setNode m (p .tail) (withNext x new)) (sym q)
+
+pub last-lt : (p : Node) (new k t : ℕ) → t ≡ lastChild p new → new < k → t < k
+unfolding lastChild
+last-lt p new k t e h = subst (λ (x : ℕ). x < k) (sym e) (go (eqb (p .head) 0) (leb new (p .tail)) refl)
+  where
+    go : (d e : Bool) → leb new (p .tail) ≡ e → cond d new (cond e new (p .tail)) < k
+    go true e q = h
+    go false true q = h
+    go false false q = let z = leb-false new (p .tail) q in omega arith
+
+-- the same where the sibling is linked before node new is stored; where p has no child it is node new itself, which is stored over it
+pub last-is : (m : Nodes) (p l : Node) (new : ℕ)
+    → setNode (setNode m (lastChild p new) (withNext (see m (lastChild p new)) new)) new l ≡ linkLast (setNode m new l) p new
+unfolding lastChild linkLast
+last-is m p l new = go (eqb (p .head) 0) (leb new (p .tail)) refl
+  where
+    linked : ℕ → Nodes
+    linked t = setNode m t (withNext (see m t) new)
+
+    go : (d e : Bool) → leb new (p .tail) ≡ e
+        → setNode (linked (cond d new (cond e new (p .tail)))) new l
+        ≡ cond d (setNode m new l) (cond e (setNode m new l)
+        (setNode (setNode m new l) (p .tail) (withNext (see (setNode m new l) (p .tail)) new)))
+    go true e q = set-over m new _ l
+    go false true q = set-over m new _ l
+    go false false q =
+        let z = leb-false new (p .tail) q in
+        let ne : p .tail ≡ new → ⊥ = λ e. omega arith in
+        set-swap m (p .tail) new _ l ne
+        ∙ ap (λ (x : Node). setNode (setNode m new l) (p .tail) (withNext x new)) (sym (see-other m new l (p .tail) ne))
+
+-- ---- addChild
+
+pub add-is : (m m₁ m₂ m₃ : Nodes) (made parent b t : ℕ) (p n n′ l p′ : Node) → p ≡ see m parent → t ≡ lastChild p made → n ≡ see m t
+    → n′ ≡ withNext n made → m₁ ≡ setNode m t n′ → l ≡ leaf b → m₂ ≡ setNode m₁ made l → p′ ≡ grown p made → m₃ ≡ setNode m₂ parent p′
+    → m₃ ≡ addChild m made parent b
+unfolding addChild
+add-is m m₁ m₂ m₃ made parent b t p n n′ l p′ ep et en en′ e₁ el e₂ ep′ e₃ =
+    e₃ ∙ ap₂ (λ (x : Nodes) (y : Node). setNode x parent y)
+    (e₂ ∙ ap₂ (λ (x : Nodes) (y : Node). setNode x made y) (e₁ ∙ ap (setNode m t) (en′ ∙ ap (λ (x : Node). withNext x made) en)
+    ∙ ap (λ (k : ℕ). setNode m k (withNext (see m k) made)) et) el
+    ∙ last-is m p (leaf b) made ∙ ap (λ (x : Node). linkLast (setNode m made (leaf b)) x made) ep)
+    (ep′ ∙ ap (λ (x : Node). grown x made) ep)
 
 -- ---- lengths
 
@@ -186,6 +233,23 @@ desc-sound cap n s (b ∷ l) h = go (eqb (s .node) 0) (desc-sound cap n (childMa
     go true r = h
     go false r = r
 
+-- where a walk along the bytes is, at byte k: what is left of them gives what the whole does
+abbrev pub OnWay : ℕ → List ℕ → State → Nodes → Place → ℕ → Type 0
+OnWay cap l all m p k =
+    (p .node < p .made) × (p .made ≤ cap) × (descendOn cap (state m (p .node) (p .made)) (drop k l) ≡ all)
+
+pub way-on : (cap : ℕ) (l : List ℕ) (all : State) (m m′ : Nodes) (p p′ : Place) (k k′ b : ℕ) → k < length l → (p .node ≡ 0 → ⊥)
+    → b ≡ getD l k 0 → state m′ (p′ .node) (p′ .made) ≡ childMade cap m (p .made) (p .node) b → k′ ≡ k + 1
+    → OnWay cap l all m p k → OnWay cap l all m′ p′ k′
+way-on cap l all m m′ p p′ k k′ b h z eb ep ek on =
+    let s = subst (Sound cap (length m)) (sym ep) (made-sound cap m (p .made) (p .node) b (on .0) (on .1)) in (
+      s .node-lt,
+      s .made-le,
+      ap (λ (i : ℕ). descendOn cap (state m′ (p′ .node) (p′ .made)) (drop i l)) ek
+          ∙ sym (desc-on cap (state m (p .node) (p .made)) (state m′ (p′ .node) (p′ .made)) l k h z
+          (ep ∙ ap (childMade cap m (p .made) (p .node)) eb)) ∙ on .2,
+    )
+
 -- ---- rootMade
 
 module _ (cap : ℕ) (rs : List ℕ) (m : Nodes) (made at b : ℕ) where
@@ -221,6 +285,34 @@ module _ (cap : ℕ) (rs : List ℕ) (m : Nodes) (made at b : ℕ) where
       go false e x true y = record { node-lt = p; made-le = q; len = refl }
       go false e x false y = record { node-lt = leb-false made (getD rs at 0) y; made-le = q; len = refl }
 
+-- the same by a fetch and a store of the node at the root, which is stored as it is where it stands
+pub root-is : (m m′ : Nodes) (rs : List ℕ) (found : Rooting) (n n′ : Node) (b : ℕ) → n ≡ see m (found .place .node)
+    → n′ ≡ rootNode n found b → m′ ≡ setNode m (found .place .node) n′
+    → rooted rs (state m′ (found .place .node) (found .place .made)) ≡ rootGiven rs found m b
+root-is m m′ rs found n n′ b en en′ em =
+    ap (λ (x : Nodes). rooted rs (state x (found .place .node) (found .place .made)))
+    (em ∙ ap (setNode m (found .place .node)) (en′ ∙ ap (λ (x : Node). rootNode x found b) en) ∙ go (found .new))
+  where
+    go : (d : Bool) → setNode m (found .place .node) (cond d (leaf b) (see m (found .place .node)))
+        ≡ cond d (setNode m (found .place .node) (leaf b)) m
+    go true = refl
+    go false = set-seen m (found .place .node)
+
+-- the place found is within bounds, and so is the place that the way down from one leads to
+pub root-place : (cap : ℕ) (rs rs′ : List ℕ) (m : Nodes) (made at : ℕ) (found : Rooting)
+    → ((m : Nodes) (b : ℕ) → rootGiven rs′ found m b ≡ rootMade cap rs m made at b) → 1 ≤ made → made ≤ cap
+    → (found .place .node < found .place .made) × (found .place .made ≤ cap)
+root-place cap rs rs′ m made at found given p q =
+    let s = subst (λ (x : Rooted). Sound cap (length m) (x .st)) (sym (given m 0)) (root-sound cap rs m made at 0 p q) in
+    (s .node-lt, s .made-le)
+
+pub desc-place : (cap : ℕ) (m m′ : Nodes) (p q : Place) (l : List ℕ)
+    → state m′ (q .node) (q .made) ≡ descendOn cap (state m (p .node) (p .made)) l → (p .node < p .made) × (p .made ≤ cap) → q .node < cap
+desc-place cap m m′ p q l e inside =
+    let s = subst (Sound cap (length m)) (sym e) (desc-sound cap (length m) (state m (p .node) (p .made)) l
+    (record { node-lt = inside .0; made-le = inside .1; len = refl })) in
+    let h = s .node-lt in let k = s .made-le in omega arith
+
 -- ---- finishOn
 
 module _ (s : State) (id : ℕ) where
@@ -242,14 +334,25 @@ module _ (s : State) (id : ℕ) where
         no-case _ _ (ne-eqb (s .node) 0 nz) ∙ yes-case _ _ (eq-eqb (see (s .mem) (s .node) .term) 0 (there ∙ z))
         ∙ ap (λ (x : Node). ended (setNode (s .mem) (s .node) (withTerm x id)) (Made (s .made))) (sym en)
 
+-- the same by a fetch and a store of the node reached, which is stored as it is where the token is refused
+pub fin-is : (m m′ : Nodes) (n n′ : Node) (p : Place) (id : ℕ) (r : Inserted) → n ≡ see m (p .node) → n′ ≡ withEnd n p id
+    → m′ ≡ setNode m (p .node) n′ → r ≡ answerAt n p → ended m′ r ≡ finishOn (state m (p .node) (p .made)) id
+unfolding finishOn
+fin-is m m′ n n′ p id r en en′ em er =
+    ap₂ ended (em ∙ ap (setNode m (p .node)) (en′ ∙ ap (λ (x : Node). withEnd x p id) en)) (er ∙ ap (λ (x : Node). answerAt x p) en)
+    ∙ go (eqb (p .node) 0) (eqb (here .term) 0)
+  where
+    here : Node
+    here = see m (p .node)
+
+    go : (d e : Bool)
+        → ended (setNode m (p .node) (cond d here (cond e (withTerm here id) here))) (cond d NoRoom (cond e (Made (p .made)) Duplicate))
+        ≡ cond d (ended m NoRoom) (cond e (ended (setNode m (p .node) (withTerm here id)) (Made (p .made))) (ended m Duplicate))
+    go true e = ap (λ (x : Nodes). ended x NoRoom) (set-seen m (p .node))
+    go false true = refl
+    go false false = ap (λ (x : Nodes). ended x Duplicate) (set-seen m (p .node))
+
 -- ---- insertOn
-
-pub root-whole : (cap : ℕ) (rs : List ℕ) (m : Nodes) (made at b : ℕ) {w : Rooted} → w ≡ rootMade cap rs m made at b → 1 ≤ made → made ≤ cap
-    → Sound cap (length m) (w .st)
-root-whole cap rs m made at b e p q = subst (λ (x : Rooted). Sound cap (length m) (x .st)) (sym e) (root-sound cap rs m made at b p q)
-
-pub desc-whole : (cap n : ℕ) (s : State) (l : List ℕ) {u : State} → u ≡ descendOn cap s l → Sound cap n s → Sound cap n u
-desc-whole cap n s l e h = subst (Sound cap n) (sym e) (desc-sound cap n s l h)
 
 pub insert-is : (cap : ℕ) (rs : List ℕ) (m : Nodes) (made : ℕ) (bs : List ℕ) (id at : ℕ) (w : Rooted) (s : State) (d : Ended)
     → at ≡ getD bs 0 0 * 256 + getD bs 1 0 → w ≡ rootMade cap rs m made at (getD bs 1 0) → s ≡ descendOn cap (w .st) (drop 2 bs)
@@ -262,3 +365,18 @@ insert-is cap rs m made bs id at w s d ea ew es ed =
     ap (λ (x : Ended). after (w .roots) (x .mem) (x .answer)) (ed ∙ ap (λ (x : State). finishOn x id) es)
     ∙ ap (λ (x : Rooted). after (x .roots) (finishOn (descendOn cap (x .st) (drop 2 bs)) id .mem)
     (finishOn (descendOn cap (x .st) (drop 2 bs)) id .answer)) e
+
+-- the same by the steps of `insert`
+pub insert-steps : (cap : ℕ) (rs rs′ : List ℕ) (m m₁ m₂ m₃ : Nodes) (made at b n id : ℕ) (bytes : List ℕ) (found : Rooting)
+    (root root′ end end′ : Node) (q : Place) (r : Inserted) → 2 ≤ n → at ≡ getD bytes 0 0 * 256 + getD bytes 1 0
+    → ((m : Nodes) (b : ℕ) → rootGiven rs′ found m b ≡ rootMade cap rs m made at b)
+    → root ≡ see m (found .place .node) → b ≡ getD bytes 1 0 → root′ ≡ rootNode root found b
+    → m₁ ≡ setNode m (found .place .node) root′
+    → state m₂ (q .node) (q .made) ≡ descendOn cap (state m₁ (found .place .node) (found .place .made)) (drop 2 (take n bytes))
+    → end ≡ see m₂ (q .node) → end′ ≡ withEnd end q id → m₃ ≡ setNode m₂ (q .node) end′ → r ≡ answerAt end q
+    → after rs′ m₃ r ≡ insertOn cap rs m made (take n bytes) id
+insert-steps cap rs rs′ m m₁ m₂ m₃ made at b n id bytes found root root′ end end′ q r two ea ef eo eb eo′ e₁ eq ee ee′ e₂ er =
+    insert-is cap rs m made (take n bytes) id at _ (state m₂ (q .node) (q .made)) (ended m₃ r)
+    (ea ∙ ap₂ (λ (x y : ℕ). x * 256 + y) (sym (getD-take n bytes 0 0 (omega arith))) (sym (getD-take n bytes 1 0 two)))
+    (root-is m m₁ rs′ found root root′ b eo eo′ e₁ ∙ ef m b ∙ ap (rootMade cap rs m made at) (eb ∙ sym (getD-take n bytes 1 0 two)))
+    eq (fin-is m₂ m₃ end end′ q id r ee ee′ e₂ er)

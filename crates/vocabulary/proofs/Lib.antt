@@ -1,3 +1,4 @@
 -- What the proofs of this crate share.
 pub mod Reading
-pub mod Calls
+pub mod Types
+pub mod Passing

@@ -1,14 +1,15 @@
 -- What the answers of the code mean, in the terms of `spec`. Assumes nothing.
 use mathlib.Core.Path.{_≡_}
 use mathlib.Core.Bool.{Bool, true, false}
+use mathlib.Core.Option.{Option, none, some}
 use mathlib.Core.List.{List}
-use Prim.Native.Nat.{ℕ, _≤_}
+use Prim.Native.Nat.{ℕ, _+_, _≤_}
 use lib.IntN.{ℤ}
 use lib.ListN.{take}
 use Rattle.spec.specs.Check.{Check, pass, refuse}
 use Rattle.spec.specs.Token.{Token}
 use Rattle.spec.specs.Memory.{Memory, memoryOf, emptied}
-use Rattle.spec.specs.Load.{Room, takeLine, nowhere, line, offset, byte, accepted, refused, finish, load, countsOf, noCounts, LoadAnswer}
+use Rattle.spec.specs.Load.{Room, nowhere, line, offset, byte, accepted, refused, finish, load, countsOf, noCounts, LoadAnswer}
 use Rattle.spec.specs.Load as spec
 use Rattle.trie.specs.Run.{Nodes}
 use Rattle.builder.specs.Built.{Built}
@@ -17,14 +18,12 @@ use Rattle.builder.specs.declared.Finished.{Finished}
 use Rattle.builder.specs.declared.Finished.the-variants as Finished
 use Rattle.builder.specs.declared.Pushed.{Pushed}
 use Rattle.builder.specs.declared.Pushed.the-variants as Pushed
-use Rattle.utf8.specs.declared.Text.{Text}
-use Rattle.utf8.specs.declared.Text.the-variants as Text
 use Rattle.vocabulary.specs.declared.read.Read.{Read}
 use Rattle.vocabulary.specs.declared.read.Read.the-variants as Read
-use Rattle.vocabulary.specs.declared.lines.Lines.{Lines}
-use Rattle.vocabulary.specs.declared.lines.Lines.the-variants as Lines
+use Rattle.vocabulary.specs.declared.lines.Taking.{Taking}
 use Rattle.vocabulary.specs.declared.Place.{Place}
 use Rattle.vocabulary.specs.declared.Place.the-variants as Place
+use Rattle.vocabulary.specs.declared.LoadRefusal.{LoadRefusal}
 use Rattle.vocabulary.specs.declared.Counts.{Counts}
 use Rattle.vocabulary.specs.declared.Load.{Load}
 use Rattle.vocabulary.specs.declared.Load.the-variants as Load
@@ -52,6 +51,12 @@ abbrev pub WorkKept : ℕ → (ns : Nodes) (us bs : List ℕ) (ns′ : Nodes) (u
 WorkKept number ns us bs ns′ us′ bs′ = 1 ≤ number → number ≤ 2 → (ns′ ≡ ns) × (us′ ≡ us) × (bs′ ≡ bs)
 
 -- ---- parts of a load
+
+-- 1 where the memory is too short, then 2 where the text is bad; number 0 where it is neither
+abbrev pub earlyOf : Bool → Option ℕ → LoadRefusal
+earlyOf true o = record { number = 1; place = Place.Nowhere }
+earlyOf false (some i) = record { number = 2; place = Place.Offset i }
+earlyOf false none = record { number = 0; place = Place.Nowhere }
 
 -- the answer of a build that came to its end
 abbrev pub finishedAs : Build → Finished → Load
@@ -83,68 +88,51 @@ abbrev pub Short : Read → Type 0
 Short (Read.Found id n) = n ≤ 255
 Short (Read.Refused n) = Unit {0}
 
--- whether a line was refused, and what it states otherwise
-abbrev pub refuses : Read → Bool
-refuses (Read.Found id n) = false
-refuses (Read.Refused n) = true
+-- ---- the lines of a text
 
-abbrev pub idIn : Read → ℕ
-idIn (Read.Found id n) = id
-idIn (Read.Refused n) = 0
+-- no line is read yet
+abbrev pub begunAs : Build → Taking
+begunAs st = record { build = st; takes = false; id = 0; len = 0; at = 0; lines = 0; number = 0 }
 
-abbrev pub lengthIn : Read → ℕ
-lengthIn (Read.Found id n) = n
-lengthIn (Read.Refused n) = 0
+-- the taking ends with this number
+abbrev pub stoppedAs : Taking → ℕ → Taking
+stoppedAs t n = record { build = t .build; takes = false; id = t .id; len = t .len; at = t .at; lines = t .lines; number = n }
 
--- the refusal of a line, counted from 1
-abbrev pub refusedAt : Read → ℕ → Lines
-refusedAt (Read.Found id n) k = Lines.Refused 0 k
-refusedAt (Read.Refused n) k = Lines.Refused n k
+-- one line more was read: the token that it states is to be taken, or its number ends the taking
+abbrev pub lineAs : Taking → ℕ → Read → Taking
+lineAs t next (Read.Found id n) = record {
+  build = t .build;
+  takes = true;
+  id = id;
+  len = n;
+  at = next;
+  lines = t .lines + 1;
+  number = 0;
+}
+lineAs t next (Read.Refused n) = record {
+  build = t .build;
+  takes = false;
+  id = t .id;
+  len = t .len;
+  at = next;
+  lines = t .lines + 1;
+  number = n;
+}
 
--- ---- lines
+-- the token was taken, or its number ends the taking
+abbrev pub pushedAs : Taking → Pushed → Taking
+pushedAs t (Pushed.Taken st) = record {
+  build = st;
+  takes = false;
+  id = t .id;
+  len = t .len;
+  at = t .at;
+  lines = t .lines;
+  number = 0;
+}
+pushedAs t (Pushed.Refused n) = stoppedAs t n
 
--- whether a push was refused, and the build or the refusal
-abbrev pub declines : Pushed → Bool
-declines (Pushed.Taken st) = false
-declines (Pushed.Refused n) = true
-
-abbrev pub buildIn : Pushed → Build
-buildIn (Pushed.Taken st) = st
-buildIn (Pushed.Refused n) = record { previous = 0; tokens = 0; made = 0; used = 0 }
-
-abbrev pub declinedAt : Pushed → ℕ → Lines
-declinedAt (Pushed.Taken st) k = Lines.Refused 0 k
-declinedAt (Pushed.Refused n) k = Lines.Refused n k
-
--- whether the lines were refused, and the build or the refusal
-abbrev pub stopped : Lines → Bool
-stopped (Lines.All st) = false
-stopped (Lines.Refused n k) = true
-
-abbrev pub buildOf : Lines → Build
-buildOf (Lines.All st) = st
-buildOf (Lines.Refused n k) = record { previous = 0; tokens = 0; made = 0; used = 0 }
-
-abbrev pub refusalOf : Lines → Load
-refusalOf (Lines.All st) = Load.Refused (record { number = 0; place = Place.Nowhere })
-refusalOf (Lines.Refused n k) = Load.Refused (record { number = n; place = Place.Line k })
-
--- a text that is not UTF-8
-abbrev pub ill : Text → Bool
-ill (Text.BadAt i) = true
-ill Text.WellFormed = false
-
-abbrev pub illText : Text → Load
-illText (Text.BadAt i) = Load.Refused (record { number = 2; place = Place.Offset i })
-illText Text.WellFormed = Load.Refused (record { number = 2; place = Place.Nowhere })
-
--- Taken: the line passed, and the memory holds the tokens after it. Refused: by the number that the table gives.
-abbrev pub LineAs : Room → List Token → List ℕ → Pushed → List ℤ → List ℕ → List ℕ → List ℕ → Nodes → Type 0
-LineAs r ts l (Pushed.Taken st) s os bl rs ns = (more : List Token) × (takeLine r ts l ≡ pass more) × Built more s os bl rs ns st
-LineAs r ts l (Pushed.Refused n) s os bl rs ns = takeLine r ts l ≡ refuse n
-
--- All: the lines passed, and the memory holds their tokens. Refused: by the number and at the line that the table gives.
-abbrev pub LinesAs : Bool → Room → List ℕ → Lines → List ℤ → List ℕ → List ℕ → List ℕ → Nodes → Type 0
-LinesAs partial r text (Lines.All st) s os bl rs ns =
-    (ts : List Token) × (load partial r text ≡ finish partial r ts) × Built ts s os bl rs ns st
-LinesAs partial r text (Lines.Refused n k) s os bl rs ns = load partial r text ≡ refused n (line k)
+-- Number 0: the lines passed, and the memory holds their tokens. Else refused, by the number and at the line that the table gives.
+pub record LinesAs (partial : Bool) (r : Room) (text : List ℕ) (t : Taking) (s : List ℤ) (os bl rs : List ℕ) (ns : Nodes) : Type 0 where
+  pub all : t .number ≡ 0 → (ts : List Token) × (load partial r text ≡ finish partial r ts) × Built ts s os bl rs ns (t .build)
+  pub refusal : (t .number ≡ 0 → ⊥) → load partial r text ≡ refused (t .number) (line (t .lines))

@@ -3,7 +3,7 @@
 use mathlib.Core.Path.{_≡_, refl, sym, ap, ap₂, _∙_, subst}
 use mathlib.Core.Logic.{_⊎_, inl, inr}
 use mathlib.Core.Bool.{Bool, true, false}
-use mathlib.Core.Option.{some}
+use mathlib.Core.Option.{Option, none, some}
 use mathlib.Core.List.{List, [], _++_}
 use Prim.Native.Nat.{ℕ, _+_, _≤_, _<_}
 use native.Mathlib.Omega.{arith}
@@ -19,11 +19,8 @@ use Rattle.spec.specs.Load.{Room, tableRoom, nowhere, Outcome, accepted, refuse
 use Rattle.spec.specs.Load.{LoadResult, turnedDown, settled, LoadsTo}
 use Rattle.spec.specs.Load as spec
 use Rattle.trie.specs.Run.{room}
-use Rattle.laws.specs.Reads.{single-length, offset-length, root-length}
+use Rattle.laws.specs.Reads.{LongEnough, single-length, offset-length, root-length}
 use Rattle.loading.specs.Left.{load-refused, by-tests}
-use Rattle.utf8.specs.Means.{textMeans}
-use Rattle.utf8.specs.declared.Text.{Text}
-use Rattle.utf8.specs.declared.Text.the-variants as Text
 use Rattle.trie.specs.Run.{Nodes}
 use Rattle.builder.specs.Built.{Built, Kept, FinishedAs}
 use Rattle.builder.specs.Finish.{over-of, same-memory}
@@ -31,10 +28,10 @@ use Rattle.builder.specs.Grow.{count-more}
 use Rattle.builder.specs.declared.Build.{Build}
 use Rattle.builder.specs.declared.Finished.{Finished}
 use Rattle.builder.specs.declared.Finished.the-variants as Finished
-use Rattle.vocabulary.specs.Answers.{placeOf, answerOf, finishedAs, BuiltAs, leftBy, LinesAs}
-use Rattle.vocabulary.specs.declared.lines.Lines.{Lines}
-use Rattle.vocabulary.specs.declared.lines.Lines.the-variants as Lines
+use Rattle.vocabulary.specs.Answers.{placeOf, answerOf, WorkKept, earlyOf, finishedAs, BuiltAs, leftBy, LinesAs}
+use Rattle.vocabulary.specs.declared.lines.Taking.{Taking}
 use Rattle.vocabulary.specs.declared.Place.the-variants as Place
+use Rattle.vocabulary.specs.declared.LoadRefusal.{LoadRefusal}
 use Rattle.vocabulary.specs.declared.Load.{Load}
 use Rattle.vocabulary.specs.declared.Load.the-variants as Load
 
@@ -78,7 +75,7 @@ module _ {s s′ : List ℤ} {os os′ rs rs′ : List ℕ} (K : Kept s os rs s�
       (over-kept 65536 (rootList ts) rs rs′ (root-length ts) (K .roots))
       (ap (padded (tableList ts)) et)
 
-pub kept-trans : {s s′ s″ : List ℤ} {os os′ os″ rs rs′ rs″ : List ℕ} → Kept s os rs s′ os′ rs′ → Kept s′ os′ rs′ s″ os″ rs″
+kept-trans : {s s′ s″ : List ℤ} {os os′ os″ rs rs′ rs″ : List ℕ} → Kept s os rs s′ os′ rs′ → Kept s′ os′ rs′ s″ os″ rs″
     → Kept s os rs s″ os″ rs″
 kept-trans K J = record { single = J .single ∙ K .single; offsets = J .offsets ∙ K .offsets; roots = J .roots ∙ K .roots }
 
@@ -93,7 +90,7 @@ module _ (partial : Bool) (r : Room) (text : List ℕ) (s₀ : List ℤ) (os₀ 
     {os bl rs : List ℕ} {ns : Nodes} {st : Build}
     (read : load partial r text ≡ finish partial r ts) (B : Built ts s os bl rs ns st) (K : Kept s₀ os₀ rs₀ s os rs)
     (eb : length bl ≡ length bl₀) where
-  pub built-finished : (end : Finished) (os′ rs′ tb′ : List ℕ) → FinishedAs partial r ts end os rs tb os′ rs′ tb′
+  built-finished : (end : Finished) (os′ rs′ tb′ : List ℕ) → FinishedAs partial r ts end os rs tb os′ rs′ tb′
       → BuiltAs partial r text (finishedAs st end) (memory s₀ os₀ bl₀ rs₀ tb) (memory s os′ bl rs′ tb′)
   unfolding memoryOf countsOf
   built-finished (Finished.Packed n) os′ rs′ tb′ F = (
@@ -111,38 +108,14 @@ module _ (partial : Bool) (r : Room) (text : List ℕ) (s₀ : List ℤ) (os₀ 
   built-finished (Finished.Wanting b) os′ rs′ tb′ F = read ∙ F
   built-finished Finished.NoTable os′ rs′ tb′ F = read ∙ F
 
--- the lines of a text that were all taken: what `finish` asks of the build, and what it answers is the build's answer
-module _ (partial : Bool) (r : Room) (text : List ℕ) (s : List ℤ) (os bl rs : List ℕ) (ns : Nodes) (p : Lines)
-    (T : LinesAs partial r text p s os bl rs ns)
-    (st : Build) (e : p ≡ Lines.All st) where
-  all : LinesAs partial r text (Lines.All st) s os bl rs ns
-  all = subst (λ (x : Lines). LinesAs partial r text x s os bl rs ns) e T
-
-  pub lines-made : 1 ≤ st .made
-  lines-made = let k = all .2 .made in let h = count-more (all .0) in omega arith
-
-  pub lines-room : 0 < st .tokens → st .made ≤ room ns
-  lines-room h = let B = all .2 in go B (B .node-room)
-    where
-      go : {ts : List Token} → Built ts s os bl rs ns st → (nodeCount ts ≤ room ns) ⊎ (ts ≡ []) → st .made ≤ room ns
-      go B (inl k) = let m = B .made in omega arith
-      go B (inr k) = let t = B .tokens in let z = ap (λ (us : List Token). length us) k in absurd (omega arith)
-
-  pub lines-finished : (s₀ : List ℤ) (os₀ bl₀ rs₀ tb : List ℕ) → Kept s₀ os₀ rs₀ s os rs → length bl ≡ length bl₀
-      → (end : Finished) (os′ rs′ tb′ : List ℕ) → ((ts : List Token) → Built ts s os bl rs ns st
-      → FinishedAs partial r ts end os rs tb os′ rs′ tb′)
-      → (a : Load) → a ≡ finishedAs st end → BuiltAs partial r text a (memory s₀ os₀ bl₀ rs₀ tb) (memory s os′ bl rs′ tb′)
-  lines-finished s₀ os₀ bl₀ rs₀ tb K eb end os′ rs′ tb′ F a q =
-      let (ts, read, B) = all in
-      subst (λ (x : Load). BuiltAs partial r text x (memory s₀ os₀ bl₀ rs₀ tb) (memory s os′ bl rs′ tb′)) (sym q)
-      (built-finished partial r text s₀ os₀ bl₀ rs₀ tb read B K eb end os′ rs′ tb′ (F ts B))
-
--- a line that was refused refuses the build
-pub lines-refused : (partial : Bool) (r : Room) (text : List ℕ) (s : List ℤ) (os bl rs : List ℕ) (ns : Nodes) (p : Lines)
-    → LinesAs partial r text p s os bl rs ns → (n k : ℕ) → p ≡ Lines.Refused n k
-    → (a : Load) → a ≡ Load.Refused (record { number = n; place = Place.Line k }) → (m m′ : Memory) → BuiltAs partial r text a m m′
-lines-refused partial r text s os bl rs ns p T n k e a q m m′ =
-    subst (λ (x : Load). BuiltAs partial r text x m m′) (sym q) (subst (λ (x : Lines). LinesAs partial r text x s os bl rs ns) e T)
+-- what `finish` asks of the build of a text's lines
+pub lines-made : {ts : List Token} {s : List ℤ} {os bl rs : List ℕ} {ns : Nodes} {st : Build} → Built ts s os bl rs ns st
+    → (1 ≤ st .made) × (0 < st .tokens → st .made ≤ room ns)
+lines-made {ts} {ns = ns} {st = st} B = ((let k = B .made in let h = count-more ts in omega arith), λ h. go h (B .node-room))
+  where
+    go : 0 < st .tokens → (nodeCount ts ≤ room ns) ⊎ (ts ≡ []) → st .made ≤ room ns
+    go h (inl k) = let m = B .made in omega arith
+    go h (inr k) = let t = B .tokens in let z = ap (λ (us : List Token). length us) k in absurd (omega arith)
 
 -- ---- a load of UTF-8 text
 
@@ -178,55 +151,117 @@ module _ (partial : Bool) (nodes used bases : ℕ) (text : List ℕ) (s : List �
       (emptied-same (kept-trans first-kept K) bl bl₂ tb tb₂ (eb₂ ∙ eb) (et₂ ∙ et))
       ∙ ap (settled (memory s os bl rs tb)) (sym T)
 
-  pub text-settles : (a : Load) → As (roomOf (length bl₁) (length tb₁)) a
+  text-settles : (a : Load) → As (roomOf (length bl₁) (length tb₁)) a
       → (m : Memory) → m ≡ leftBy a (memory s₂ os₂ bl₂ rs₂ tb₂)
       → loaded a m ≡ settled (memory s os bl rs tb) (load partial (roomOf (length bl) (length tb)) text)
   text-settles a T m e =
       ap (loaded a) e
       ∙ settled-as (roomOf (length bl) (length tb)) a (subst (λ (r : Room). As r a) (ap₂ roomOf eb et) T)
 
+-- The memory s .. is emptied to s₁ .., and the lines of the text are taken into it, up to s₂ .. and ns₂.
+module _ {partial : Bool} {nodes : ℕ} (used bases : ℕ) {text : List ℕ} (s : List ℤ) (os bl rs tb : List ℕ) {s₁ : List ℤ}
+    {os₁ bl₁ rs₁ tb₁ : List ℕ} {s₂ : List ℤ} {os₂ bl₂ rs₂ : List ℕ} {ns₂ : Nodes}
+    (begun : memory s₁ os₁ bl₁ rs₁ tb₁ ≡ emptied (memory s os bl rs tb)) (eb : length bl₁ ≡ length bl) (et : length tb₁ ≡ length tb)
+    (taken : Taking)
+    (L : LinesAs partial (record { nodes = nodes; blob = length bl₁; table = tableRoom (length tb₁) used bases }) text taken
+    s₂ os₂ bl₂ rs₂ ns₂)
+    (K : Kept s₁ os₁ rs₁ s₂ os₂ rs₂) (eb₂ : length bl₂ ≡ length bl₁) where
+  abbrev roomAt : ℕ → ℕ → Room
+  roomAt blob table = record { nodes = nodes; blob = blob; table = tableRoom table used bases }
+
+  abbrev Settles : Load → Memory → Type 0
+  Settles a m = loaded a m ≡ settled (memory s os bl rs tb) (load partial (roomAt (length bl) (length tb)) text)
+
+  -- a line was refused, and the memory is emptied
+  pub refused-settles : (taken .number ≡ 0 → ⊥) → (m : Memory) → m ≡ emptied (memory s₂ os₂ bl₂ rs₂ tb₁)
+      → (a : Load) → a ≡ Load.Refused (record { number = taken .number; place = Place.Line (taken .lines) }) → Settles a m
+  refused-settles bad m e a q =
+      let a₀ : Load = Load.Refused (record { number = taken .number; place = Place.Line (taken .lines) }) in
+      subst (λ (x : Load). Settles x m) (sym q)
+      (text-settles partial nodes used bases text s os bl rs tb s₁ os₁ bl₁ rs₁ tb₁ begun eb et s₂ os₂ bl₂ rs₂ tb₁ K eb₂ refl
+      a₀ (L .refusal bad) m e)
+
+  -- the build came to its end, and its answer settles the memory
+  module _ (z : taken .number ≡ 0) (end : Finished) {os₃ rs₃ : List ℕ} (tb₃ : List ℕ)
+      (F : (blob : List ℕ) (most : Room) (ts : List Token) → most .table ≡ tableRoom (length tb₁) used bases
+      → Built ts s₂ os₂ blob rs₂ ns₂ (taken .build) → FinishedAs partial most ts end os₂ rs₂ tb₁ os₃ rs₃ tb₃)
+      (K₃ : Kept s₂ os₂ rs₂ s₂ os₃ rs₃) (et₃ : length tb₃ ≡ length tb₁) where
+    pub finished-settles : (a : Load) → a ≡ finishedAs (taken .build) end
+        → (m : Memory) → m ≡ leftBy a (memory s₂ os₃ bl₂ rs₃ tb₃) → Settles a m
+    finished-settles a q m e =
+        let (ts, read, B) = L .all z in
+        let most = roomAt (length bl₁) (length tb₁) in
+        text-settles partial nodes used bases text s os bl rs tb s₁ os₁ bl₁ rs₁ tb₁ begun eb et s₂ os₃ bl₂ rs₃ tb₃ (kept-trans K K₃)
+        eb₂ et₃ a
+        (subst (λ (x : Load). BuiltAs partial most text x (memory s₁ os₁ bl₁ rs₁ tb₁) (memory s₂ os₃ bl₂ rs₃ tb₃)) (sym q)
+        (built-finished partial most text s₁ os₁ bl₁ rs₁ tb₁ read B K eb₂ end os₃ rs₃ tb₃ (F bl₂ most ts refl B))) m e
+
+-- memory of the same lengths is long enough
+pub long-kept : {s s′ : List ℤ} {os os′ rs rs′ : List ℕ} (bl tb bl′ tb′ : List ℕ) → LongEnough (memory s os bl rs tb)
+    → length s′ ≡ length s → length os′ ≡ length os → length rs′ ≡ length rs → LongEnough (memory s′ os′ bl′ rs′ tb′)
+long-kept bl tb bl′ tb′ h es eo er =
+    let a = h .single in
+    let b = h .offsets in
+    let c = h .roots in
+    record { single = omega arith; offsets = omega arith; roots = omega arith }
+
 -- ---- a load of any bytes
 
-module _ (partial : Bool) (nodes table : ℕ) (m : Memory) (text : List ℕ) where
+-- 1 and 2: nothing has changed. Else the memory is long enough, and the text is good
+module _ (partial : Bool) (nodes table : ℕ) (m : Memory) (text : List ℕ) (early : LoadRefusal)
+    (is : early ≡ earlyOf (tooShort m) (firstBad text)) where
+  pub loads-early : (early .number ≡ 0 → ⊥) → (a : Load) → a ≡ Load.Refused (record { number = early .number; place = early .place })
+      → LoadsTo partial nodes table m text (loaded a m)
+  loads-early bad a q = go (tooShort m) (firstBad text) refl refl is
+    where
+      go : (b : Bool) (o : Option ℕ) → tooShort m ≡ b → firstBad text ≡ o → early ≡ earlyOf b o
+          → LoadsTo partial nodes table m text (loaded a m)
+      go true o eb eo e = record {
+        bad = 0;
+        result = ap (λ (x : Load). loaded x m) (q ∙ ap Load.Refused e)
+            ∙ sym (by-tests 0 partial nodes table m text true (wellFormed text) eb refl);
+        starts = λ k. absurd (let z = ap (λ (x : Load). answerOf x .number) (q ∙ ap Load.Refused e) in omega arith);
+      }
+      go false (some i) eb eo e = record {
+        bad = i;
+        result = ap (λ (x : Load). loaded x m) (q ∙ ap Load.Refused e)
+            ∙ sym (by-tests i partial nodes table m text false false eb (well-formed-first text ∙ ap isNone eo));
+        starts = λ k. first-bad-ill text i eo;
+      }
+      go false none eb eo e = absurd (bad (ap (λ (x : LoadRefusal). x .number) e))
+
+  pub not-early : early .number ≡ 0 → (tooShort m ≡ false) × (firstBad text ≡ none)
+  not-early good = go (tooShort m) (firstBad text) refl refl is
+    where
+      go : (b : Bool) (o : Option ℕ) → tooShort m ≡ b → firstBad text ≡ o → early ≡ earlyOf b o
+          → (tooShort m ≡ false) × (firstBad text ≡ none)
+      go true o eb eo e = absurd (let z = ap (λ (x : LoadRefusal). x .number) e in omega arith)
+      go false (some i) eb eo e = absurd (let z = ap (λ (x : LoadRefusal). x .number) e in omega arith)
+      go false none eb eo e = (eb, eo)
+
+-- what is read is loaded as the table has it, and the work memory is free: a text that is read is never refused with 1 or 2
+module _ (partial : Bool) (nodes table : ℕ) (m : Memory) (text : List ℕ) (long : tooShort m ≡ false) (good : firstBad text ≡ none) where
   abbrev R : Room
   R = record { nodes = nodes; blob = length (m .blob); table = table }
 
-  pub loads-short : tooShort m ≡ true → (a : Load) → a ≡ Load.Refused (record { number = 1; place = Place.Nowhere })
-      → LoadsTo partial nodes table m text (loaded a m)
-  loads-short e a q = record {
-    bad = 0;
-    result = ap (λ (x : Load). loaded x m) q ∙ sym (by-tests 0 partial nodes table m text true (wellFormed text) e refl);
-    starts = λ k. absurd (let z = ap (λ (x : Load). answerOf x .number) q in omega arith);
-  }
+  abbrev Loads : Load → Memory → Type 0
+  Loads a m′ = LoadsTo partial nodes table m text (loaded a m′)
+      × ((ns : Nodes) (us bs : List ℕ) (ns′ : Nodes) (us′ bs′ : List ℕ) → WorkKept (answerOf a .number) ns us bs ns′ us′ bs′)
 
-  pub loads-bad : tooShort m ≡ false → (t : Text) → textMeans t ≡ firstBad text → (i : ℕ) → t ≡ Text.BadAt i
-      → (a : Load) → a ≡ Load.Refused (record { number = 2; place = Place.Offset i }) → LoadsTo partial nodes table m text (loaded a m)
-  loads-bad e t f i g a q =
-      let b : firstBad text ≡ some i = sym f ∙ ap textMeans g in record {
-        bad = i;
-        result = ap (λ (x : Load). loaded x m) q ∙ sym (by-tests i partial nodes table m text false false e
-            (well-formed-first text ∙ ap isNone b));
-        starts = λ k. first-bad-ill text i b;
-      }
-
-  -- what stands in the text is never refused with 1 or 2
-  not-early : (o : Outcome) → load partial R text ≡ o → 1 ≤ settled m o .answer .number → settled m o .answer .number ≤ 2 → ⊥
+  late : (o : Outcome) → load partial R text ≡ o → 1 ≤ settled m o .answer .number → settled m o .answer .number ≤ 2 → ⊥
   unfolding settled
-  not-early (accepted ts) e j k = omega arith
-  not-early (refused n p) e j k = let h = load-refused partial R text n p e in omega arith
+  late (accepted ts) e j k = omega arith
+  late (refused n p) e j k = let h = load-refused partial R text n p e in omega arith
 
-  module _ (r : LoadResult) (q : r ≡ settled m (load partial R text)) where
-    same-number : r .answer .number ≡ settled m (load partial R text) .answer .number
-    same-number = ap (λ (x : LoadResult). x .answer .number) q
-
-    pub text-late : 1 ≤ r .answer .number → r .answer .number ≤ 2 → ⊥
-    text-late j k =
-        not-early (load partial R text) refl (subst (λ (n : ℕ). 1 ≤ n) same-number j) (subst (λ (n : ℕ). n ≤ 2) same-number k)
-
-    pub loads-text : tooShort m ≡ false → (t : Text) → textMeans t ≡ firstBad text → t ≡ Text.WellFormed
-        → LoadsTo partial nodes table m text r
-    loads-text e t f g = record {
-      bad = 0;
-      result = q ∙ sym (by-tests 0 partial nodes table m text false true e (well-formed-first text ∙ ap isNone (sym f ∙ ap textMeans g)));
-      starts = λ k. absurd (text-late (omega arith) (omega arith));
-    }
+  pub loads-text : (a : Load) (m′ : Memory) → loaded a m′ ≡ settled m (load partial R text) → Loads a m′
+  loads-text a m′ q =
+      let e : answerOf a .number ≡ settled m (load partial R text) .answer .number = ap (λ (x : LoadResult). x .answer .number) q in
+      let never : 1 ≤ answerOf a .number → answerOf a .number ≤ 2 → ⊥ =
+      λ j k. late (load partial R text) refl (subst (λ (n : ℕ). 1 ≤ n) e j) (subst (λ (n : ℕ). n ≤ 2) e k) in (
+        record {
+          bad = 0;
+          result = q ∙ sym (by-tests 0 partial nodes table m text false true long (well-formed-first text ∙ ap isNone good));
+          starts = λ k. absurd (never (omega arith) (omega arith));
+        },
+        λ ns us bs ns′ us′ bs′ j k. absurd (never j k),
+      )

@@ -8,18 +8,17 @@ pub mod read;
 
 ghost use mathlib.Core.Path.{_≡_};
 ghost use mathlib.Core.Bool.{true, false};
-ghost use mathlib.Core.List.{[]};
-ghost use Prim.Native.Nat.{_≤_};
+ghost use mathlib.Core.List.{List};
+ghost use Prim.Native.Nat.{ℕ};
 ghost use lib.ListN.{length};
-ghost use Rattle.spec.specs.Memory.{memory};
+ghost use Rattle.spec.specs.Utf8.{firstBad};
+ghost use Rattle.spec.specs.Memory.{memory, tooShort, emptied};
 ghost use Rattle.spec.specs.Load.{tableRoom, load, settled, LoadsTo};
 ghost use Rattle.laws.specs.Reads.{LongEnough};
-ghost use Rattle.builder.specs.Built.{Built, Kept, roomFor};
-ghost use Rattle.vocabulary.specs.Answers.{answerOf, WorkKept, finishedAs, BuiltAs, leftBy};
-ghost use Rattle.vocabulary.specs.Answers.{stopped, buildOf, refusalOf, ill, illText};
+ghost use Rattle.builder.specs.Built.{roomFor};
+ghost use Rattle.vocabulary.specs.Answers.{answerOf, WorkKept, finishedAs, leftBy, earlyOf};
 ghost use Rattle.vocabulary.specs.Settling.{loaded};
 use builder::Build;
-use lines::Lines;
 use trie::Node;
 
 // Where a refusal was met.
@@ -56,7 +55,7 @@ fn refused(number: u8, place: Place) -> Load
     Load::Refused(LoadRefusal { number, place })
 }
 
-// The answer of a build that came to its end.
+// What the end of a build answers.
 fn finished(st: Build, end: builder::Finished) -> Load
     ensures { λ r. ⌜ r ≡ finishedAs st end ⌝ }
 {
@@ -73,104 +72,52 @@ fn finished(st: Build, end: builder::Finished) -> Load
     }
 }
 
-fn is_stopped(taken: Lines) -> bool
-    ensures { λ r. ⌜ r ≡ stopped taken ⌝ }
-{
-    match taken {
-        Lines::All(_) => false,
-        Lines::Refused(_, _) => true,
-    }
-}
-
-fn build_of(taken: Lines) -> Build
-    ensures { λ r. ⌜ r ≡ buildOf taken ⌝ }
-{
-    match taken {
-        Lines::All(st) => st,
-        Lines::Refused(_, _) => Build {
-            previous: 0,
-            tokens: 0,
-            made: 0,
-            used: 0,
-        },
-    }
-}
-
-fn refusal_of(taken: Lines) -> Load
-    ensures { λ r. ⌜ r ≡ refusalOf taken ⌝ }
-{
-    match taken {
-        Lines::All(_) => refused(0, Place::Nowhere),
-        Lines::Refused(number, line) => refused(number, Place::Line(line)),
-    }
-}
-
-// The tokens of a text into emptied memory. A refusal leaves behind whatever the lines before it made.
-fn build(
-    text: &[u8],
-    partial: bool,
+// A line, counted from 1, is refused. "After 3 to 21 the vocabulary memory is emptied".
+fn refuse_line(
+    number: u8,
+    line: usize,
     single: &mut [i32],
     offsets: &mut [u32],
     blob: &mut [u8],
     roots: &mut [u64],
     table: &mut [u64],
-    nodes: &mut [Node],
-    used: &mut [u64],
-    used_bases: &mut [u64],
-    cells: &mut [u8],
-    begun: Build,
 ) -> Load
-    requires { ⌜ LongEnough (memory (now single) (now offsets) [] (now roots) [])
-        × Built [] (now single) (now offsets) (now blob) (now roots) (now nodes) begun × (255 ≤ length (now cells)) ⌝ }
-    ensures stands { λ r. ⌜ BuiltAs partial
-        (roomFor (now (nodes .entry)) (now (blob .entry))
-        (tableRoom (length (now (table .entry))) (length (now (used .entry))) (length (now («used_bases» .entry)))))
-        (now (text .entry)) r
-        (memory (now (single .entry)) (now (offsets .entry)) (now (blob .entry)) (now (roots .entry)) (now (table .entry)))
-        (memory (now (single .exit)) (now (offsets .exit)) (now (blob .exit)) (now (roots .exit)) (now (table .exit))) ⌝ }
-    ensures kept { λ r. ⌜ Kept (now (single .entry)) (now (offsets .entry)) (now (roots .entry))
-        (now (single .exit)) (now (offsets .exit)) (now (roots .exit)) ⌝ }
+    requires { ⌜ LongEnough (memory (now single) (now offsets) (now blob) (now roots) (now table)) ⌝ }
+    ensures answer { λ r. ⌜ r ≡ Load.Refused (record { number = number; place = Place.Line line }) ⌝ }
+    ensures emptied { λ r. ⌜ memory (now (single .exit)) (now (offsets .exit)) (now (blob .exit)) (now (roots .exit)) (now (table .exit))
+        ≡ emptied (memory (now (single .entry)) (now (offsets .entry)) (now (blob .entry)) (now (roots .entry)) (now (table .entry))) ⌝ }
 {
-    let taken = lines::take_lines(text, single, offsets, blob, roots, nodes, cells, begun);
-    if is_stopped(taken) {
-        return refusal_of(taken);
-    }
-    let st = build_of(taken);
-    let end = builder::finish(
-        partial,
-        single,
-        offsets,
-        roots,
-        table,
-        nodes,
-        used,
-        used_bases,
-        st,
-    );
-    finished(st, end)
+    builder::empty(single, offsets, blob, roots, table);
+    refused(number, Place::Line(line))
 }
 
-// "After 3 to 21 the vocabulary memory is emptied".
+// The answer of a build that came to its end. "After 3 to 21 the vocabulary memory is emptied".
 fn settle(
-    answer: Load,
+    st: Build,
+    end: builder::Finished,
     single: &mut [i32],
     offsets: &mut [u32],
     blob: &mut [u8],
     roots: &mut [u64],
     table: &mut [u64],
-)
+) -> Load
     requires { ⌜ LongEnough (memory (now single) (now offsets) (now blob) (now roots) (now table)) ⌝ }
-    ensures { λ r. ⌜ memory (now (single .exit)) (now (offsets .exit)) (now (blob .exit)) (now (roots .exit)) (now (table .exit))
-        ≡ leftBy answer
+    ensures answer { λ r. ⌜ r ≡ finishedAs st end ⌝ }
+    ensures left { λ r. ⌜ memory (now (single .exit)) (now (offsets .exit)) (now (blob .exit)) (now (roots .exit)) (now (table .exit))
+        ≡ leftBy r
         (memory (now (single .entry)) (now (offsets .entry)) (now (blob .entry)) (now (roots .entry)) (now (table .entry))) ⌝ }
 {
+    let answer = finished(st, end);
     match answer {
-        Load::Accepted(_) => {}
-        Load::Refused(_) => builder::empty(single, offsets, blob, roots, table),
+        Load::Accepted(_) => answer,
+        Load::Refused(_) => {
+            builder::empty(single, offsets, blob, roots, table);
+            answer
+        }
     }
 }
 
-// A load of UTF-8 text.
+// A load of UTF-8 text into memory that is long enough.
 fn load_text(
     text: &[u8],
     partial: bool,
@@ -193,45 +140,54 @@ fn load_text(
 {
     let begun = builder::begin(single, offsets, blob, roots, table);
     let mut cells = [0u8; 255];
-    let answer = build(
-        text,
+    let taken = lines::take_lines(text, single, offsets, blob, roots, nodes, &mut cells, begun);
+    if taken.number != 0 {
+        return refuse_line(
+            taken.number,
+            taken.lines,
+            single,
+            offsets,
+            blob,
+            roots,
+            table,
+        );
+    }
+    let st = taken.build;
+    let end = builder::finish(
         partial,
         single,
         offsets,
-        blob,
         roots,
         table,
         nodes,
         used,
         used_bases,
-        &mut cells,
-        begun,
+        st,
     );
-    settle(answer, single, offsets, blob, roots, table);
-    answer
+    settle(st, end, single, offsets, blob, roots, table)
 }
 
-fn short_memory() -> Load
-    ensures { λ r. ⌜ r ≡ Load.Refused (record { number = 1; place = Place.Nowhere }) ⌝ }
+// 1 and 2, which are told before anything is written; number 0 where neither holds.
+fn early_refusal(text: &[u8], single: &[i32], offsets: &[u32], roots: &[u64]) -> LoadRefusal
+    ensures { λ r. ⌜ ((blob table : List ℕ)
+        → r ≡ earlyOf (tooShort (memory (now (single .entry)) (now (offsets .entry)) blob (now (roots .entry)) table))
+        (firstBad (now (text .entry)))) ⌝ }
 {
-    refused(1, Place::Nowhere)
-}
-
-fn is_ill(found: utf8::Text) -> bool
-    ensures { λ r. ⌜ r ≡ ill found ⌝ }
-{
-    match found {
-        utf8::Text::BadAt(_) => true,
-        utf8::Text::WellFormed => false,
+    if memory::too_short(single, offsets, roots) {
+        return LoadRefusal {
+            number: 1,
+            place: Place::Nowhere,
+        };
     }
-}
-
-fn ill_text(found: utf8::Text) -> Load
-    ensures { λ r. ⌜ r ≡ illText found ⌝ }
-{
-    match found {
-        utf8::Text::BadAt(at) => refused(2, Place::Offset(at)),
-        utf8::Text::WellFormed => refused(2, Place::Nowhere),
+    match utf8::first_bad(text) {
+        utf8::Text::BadAt(at) => LoadRefusal {
+            number: 2,
+            place: Place::Offset(at),
+        },
+        utf8::Text::WellFormed => LoadRefusal {
+            number: 0,
+            place: Place::Nowhere,
+        },
     }
 }
 
@@ -258,12 +214,9 @@ pub fn from_vocab_str_mode(
     ensures work { λ r. ⌜ WorkKept (answerOf r .number) (now (nodes .entry)) (now (used .entry)) (now («used_bases» .entry))
         (now (nodes .exit)) (now (used .exit)) (now («used_bases» .exit)) ⌝ }
 {
-    if memory::too_short(single, offsets, roots) {
-        return short_memory();
-    }
-    let found = utf8::first_bad(text);
-    if is_ill(found) {
-        return ill_text(found);
+    let early = early_refusal(text, single, offsets, roots);
+    if early.number != 0 {
+        return refused(early.number, early.place);
     }
     load_text(
         text,

@@ -1,164 +1,128 @@
 // The lines of a vocabulary text, taken one by one: each states a token, and the builder takes it.
 ghost use mathlib.Core.Path.{_≡_};
-ghost use mathlib.Core.Bool.{Bool};
-ghost use mathlib.Core.List.{List, []};
-ghost use Prim.Native.Nat.{ℕ, _+_, _≤_, _<_};
+ghost use mathlib.Core.Bool.{Bool, not};
+ghost use mathlib.Core.List.{[]};
+ghost use Prim.Native.Nat.{ℕ, _≤_, _<_};
 ghost use lib.Dec.{T};
-ghost use lib.ListN.{length, getD, take, drop};
-ghost use Rattle.spec.specs.Line.{nextLine};
-ghost use Rattle.spec.specs.Load.{readLine};
+ghost use lib.ListN.{length};
 ghost use Rattle.spec.specs.Memory.{memory};
 ghost use Rattle.laws.specs.Reads.{LongEnough};
 ghost use Rattle.builder.specs.Built.{Built, Kept, roomFor};
-ghost use Rattle.vocabulary.specs.Answers.{readOf, Short, LinesAs};
-ghost use Rattle.vocabulary.specs.Answers.{refuses, idIn, lengthIn, refusedAt, declines, buildIn, declinedAt};
-ghost use Rattle.vocabulary.specs.Taking.{lineIs, lineEnd, lineNext, isLine, sizeOf, nextOf};
+ghost use Rattle.vocabulary.specs.Answers.{begunAs, stoppedAs, lineAs, pushedAs, LinesAs};
+ghost use Rattle.vocabulary.specs.Taking.{NextAs};
 use crate::read;
 use crate::read::Read;
 use builder::Build;
 use builder::Pushed;
 use trie::Node;
 
-// All lines taken, or the refusal's number and its line, counted from 1.
-pub enum Lines {
-    All(Build),
-    Refused(u8, usize),
+// How far the taking of a text's lines is: the tokens taken; whether the line that was read last states a token that is yet to be taken,
+// its id and how many bytes of it stand in the cells lent; where the line after that starts, how many lines were read, and document 01's
+// number of the last one's refusal, 0 if it has none.
+pub struct Taking {
+    pub build: Build,
+    pub takes: bool,
+    pub id: u16,
+    pub len: usize,
+    pub at: usize,
+    pub lines: usize,
+    pub number: u8,
 }
 
-fn is_line(found: line::NextLine) -> bool
-    ensures { λ r. ⌜ r ≡ lineIs found ⌝ }
+// Before the first line.
+fn begun(build: Build) -> Taking
+    ensures { λ r. ⌜ r ≡ begunAs build ⌝ }
 {
+    Taking {
+        build,
+        takes: false,
+        id: 0,
+        len: 0,
+        at: 0,
+        lines: 0,
+        number: 0,
+    }
+}
+
+// The taking ends: the line that was read last is refused with this number, or no line is left and the number is 0.
+fn stopped(t: Taking, number: u8) -> Taking
+    ensures { λ r. ⌜ r ≡ stoppedAs t number ⌝ }
+{
+    let build = t.build;
+    Taking {
+        build,
+        takes: false,
+        id: t.id,
+        len: t.len,
+        at: t.at,
+        lines: t.lines,
+        number,
+    }
+}
+
+// One line more was read, and the one after it starts at `next`. Lines are counted from 1.
+fn line_read(t: Taking, next: usize, found: Read) -> Taking
+    requires { ⌜ t .lines < next ⌝ }
+    ensures { λ r. ⌜ r ≡ lineAs t next found ⌝ }
+{
+    let build = t.build;
+    let past = Taking {
+        build,
+        takes: false,
+        id: t.id,
+        len: t.len,
+        at: next,
+        lines: t.lines + 1,
+        number: 0,
+    };
     match found {
-        line::NextLine::Line { end: _, next: _ } => true,
-        line::NextLine::Nothing => false,
-    }
-}
-
-fn end_of(found: line::NextLine) -> usize
-    ensures { λ r. ⌜ r ≡ lineEnd found ⌝ }
-{
-    match found {
-        line::NextLine::Line { end, next: _ } => end,
-        line::NextLine::Nothing => 0,
-    }
-}
-
-fn next_of(found: line::NextLine) -> usize
-    ensures { λ r. ⌜ r ≡ lineNext found ⌝ }
-{
-    match found {
-        line::NextLine::Line { end: _, next } => next,
-        line::NextLine::Nothing => 0,
-    }
-}
-
-// Whether a line starts at a place of the text.
-pub fn has_line(text: &[u8], at: usize) -> bool
-    requires { ⌜ at ≤ length (now text) ⌝ }
-    ensures { λ r. ⌜ r ≡ isLine (nextLine (drop at (now (text .entry)))) ⌝ }
-{
-    is_line(line::next_line(text, at))
-}
-
-// What the line at a place states, after a token of id `previous`: 3 to 15, or the id, with the bytes in the cells.
-pub fn read_at(text: &[u8], at: usize, previous: u16, cells: &mut [u8]) -> Read
-    requires { ⌜ (at ≤ length (now text)) × T (isLine (nextLine (drop at (now text)))) × (255 ≤ length (now cells)) ⌝ }
-    ensures means { λ r. ⌜ readOf (now (cells .exit)) r
-        ≡ readLine previous (take (sizeOf (nextLine (drop at (now (text .entry))))) (drop at (now (text .entry)))) ⌝ }
-    ensures short { λ r. ⌜ Short r × ((k : ℕ) → getD (now (text .entry)) k 0 < 256) ⌝ }
-{
-    let end = end_of(line::next_line(text, at));
-    read::read_line(&text[at..end], previous, cells)
-}
-
-// Where the line after the one at a place starts.
-pub fn next_at(text: &[u8], at: usize) -> usize
-    requires { ⌜ (at ≤ length (now text)) × T (isLine (nextLine (drop at (now text)))) ⌝ }
-    ensures { λ r. ⌜ r ≡ at + nextOf (nextLine (drop at (now (text .entry)))) ⌝ }
-{
-    next_of(line::next_line(text, at))
-}
-
-pub fn is_refused(found: Read) -> bool
-    ensures { λ r. ⌜ r ≡ refuses found ⌝ }
-{
-    match found {
-        Read::Found(_, _) => false,
-        Read::Refused(_) => true,
-    }
-}
-
-pub fn id_of(found: Read) -> u16
-    ensures { λ r. ⌜ r ≡ idIn found ⌝ }
-{
-    match found {
-        Read::Found(id, _) => id,
-        Read::Refused(_) => 0,
-    }
-}
-
-pub fn length_of(found: Read) -> usize
-    ensures { λ r. ⌜ r ≡ lengthIn found ⌝ }
-{
-    match found {
-        Read::Found(_, n) => n,
-        Read::Refused(_) => 0,
-    }
-}
-
-pub fn refused_at(found: Read, line: usize) -> Lines
-    ensures { λ r. ⌜ r ≡ refusedAt found line ⌝ }
-{
-    match found {
-        Read::Found(_, _) => Lines::Refused(0, line),
-        Read::Refused(n) => Lines::Refused(n, line),
-    }
-}
-
-pub fn is_declined(pushed: Pushed) -> bool
-    ensures { λ r. ⌜ r ≡ declines pushed ⌝ }
-{
-    match pushed {
-        Pushed::Taken(_) => false,
-        Pushed::Refused(_) => true,
-    }
-}
-
-pub fn build_in(pushed: Pushed) -> Build
-    ensures { λ r. ⌜ r ≡ buildIn pushed ⌝ }
-{
-    match pushed {
-        Pushed::Taken(st) => st,
-        Pushed::Refused(_) => Build {
-            previous: 0,
-            tokens: 0,
-            made: 0,
-            used: 0,
+        Read::Found(id, len) => Taking {
+            build,
+            takes: true,
+            id,
+            len,
+            at: past.at,
+            lines: past.lines,
+            number: 0,
         },
+        Read::Refused(number) => stopped(past, number),
     }
 }
 
-pub fn declined_at(pushed: Pushed, line: usize) -> Lines
-    ensures { λ r. ⌜ r ≡ declinedAt pushed line ⌝ }
+// The next line of the text, if there is one and none was refused. The bytes of the token that it states go into the cells.
+fn read_next(text: &[u8], t: Taking, cells: &mut [u8]) -> Taking
+    requires { ⌜ (t .at ≤ length (now text)) × (t .lines ≤ t .at) × T (not (t .takes)) × (255 ≤ length (now cells)) ⌝ }
+    ensures { λ r. ⌜ NextAs (now (text .entry)) (now (cells .exit)) t r ⌝ }
+{
+    if t.number != 0 {
+        return t;
+    }
+    let at = t.at;
+    match line::next_line(text, at) {
+        line::NextLine::Nothing => stopped(t, 0),
+        line::NextLine::Line { end, next } => {
+            let found = read::read_line(&text[at..end], t.build.previous, cells);
+            line_read(t, next, found)
+        }
+    }
+}
+
+// The token of the line that was read last is taken, or refused.
+fn after_push(t: Taking, pushed: Pushed) -> Taking
+    ensures { λ r. ⌜ r ≡ pushedAs t pushed ⌝ }
 {
     match pushed {
-        Pushed::Taken(_) => Lines::Refused(0, line),
-        Pushed::Refused(n) => Lines::Refused(n, line),
+        Pushed::Taken(build) => Taking {
+            build,
+            takes: false,
+            id: t.id,
+            len: t.len,
+            at: t.at,
+            lines: t.lines,
+            number: 0,
+        },
+        Pushed::Refused(number) => stopped(t, number),
     }
-}
-
-pub fn all_lines(st: Build) -> Lines
-    ensures { λ r. ⌜ r ≡ Lines.All st ⌝ }
-{
-    Lines::All(st)
-}
-
-// One line more, of a text with a line at a place.
-pub fn one_more(lines: usize, at: usize, text: &[u8]) -> usize
-    requires { ⌜ (lines ≤ at) × (at < length (now text)) ⌝ }
-    ensures { λ r. ⌜ r ≡ lines + 1 ⌝ }
-{
-    lines + 1
 }
 
 // The tokens of a text's lines, from a build without tokens: each line states one, and the builder takes it. The cells are work memory.
@@ -170,33 +134,30 @@ pub fn take_lines(
     roots: &mut [u64],
     nodes: &mut [Node],
     cells: &mut [u8],
-    begun: Build,
-) -> Lines
+    build: Build,
+) -> Taking
     requires { ⌜ LongEnough (memory (now single) (now offsets) [] (now roots) [])
-        × Built [] (now single) (now offsets) (now blob) (now roots) (now nodes) begun × (255 ≤ length (now cells)) ⌝ }
+        × Built [] (now single) (now offsets) (now blob) (now roots) (now nodes) build × (255 ≤ length (now cells)) ⌝ }
     ensures stands { λ r. ⌜ ((partial : Bool) (table : ℕ)
         → LinesAs partial (roomFor (now (nodes .entry)) (now (blob .entry)) table) (now (text .entry)) r
         (now (single .exit)) (now (offsets .exit)) (now (blob .exit)) (now (roots .exit)) (now (nodes .exit))) ⌝ }
     ensures kept { λ r. ⌜ Kept (now (single .entry)) (now (offsets .entry)) (now (roots .entry))
         (now (single .exit)) (now (offsets .exit)) (now (roots .exit)) ⌝ }
 {
-    let mut st = begun;
-    let mut at: usize = 0;
-    let mut lines: usize = 0;
-    while has_line(text, at) {
-        lines = one_more(lines, at, text);
-        let found = read_at(text, at, st.previous, cells);
-        if is_refused(found) {
-            return refused_at(found, lines);
-        }
-        let id = id_of(found);
-        let n = length_of(found);
-        let pushed = builder::push(single, offsets, blob, roots, nodes, st, id, cells, n);
-        if is_declined(pushed) {
-            return declined_at(pushed, lines);
-        }
-        st = build_in(pushed);
-        at = next_at(text, at);
+    let mut t = read_next(text, begun(build), cells);
+    while t.takes {
+        let pushed = builder::push(
+            single,
+            offsets,
+            blob,
+            roots,
+            nodes,
+            t.build,
+            t.id,
+            cells,
+            t.len,
+        );
+        t = read_next(text, after_push(t, pushed), cells);
     }
-    all_lines(st)
+    t
 }

@@ -1,6 +1,7 @@
 -- A `&κ mut [T]` that is lent for a call, as steps of the calculus: lent as a `&[T]` or as a `&mut [T]`, for a lifetime ν that is made
--- for the call. It says nothing of the crate.     lends-shared     [the `&κ mut [T]`; κ's token; …]   to   [a `&ν [T]` of the same list;
--- ν's token; Shared; …]     ends-shared      and back, at the same list
+-- for the call.
+--     lends-shared     [the `&κ mut [T]`; κ's token; …]   to   [a `&ν [T]` of the same list; ν's token; Shared; …]
+--     ends-shared      and back, at the same list
 --     lends-mut        [the `&κ mut [T]`; κ's token; …]   to   [a `&ν mut [T]` of the same list; ν's token; Again; …]
 --     ends-mut         [what says the last list zs; ν's token; Again; …]   to   [the `&κ mut [T]` at zs; κ's token; …]
 -- Assumes `Given`.
@@ -14,31 +15,8 @@ use mir.Syntax.{Lifetime}
 use base.Fml.{Lft, GName, Share, Fml, fsep, flft, fobs, fauth, flent, fobor}
 use prog.Wp.{Heap}
 use ghost.Atoms.{Atoms}
-use types.Kit.{
-  Given,
-  Item,
-  Goal,
-  Soaks,
-  Seq,
-  Step,
-  step,
-  ‵,
-  raw,
-  _⊛_,
-  some,
-  later,
-  _$_,
-  move,
-  use1,
-  use3,
-  drop,
-  split,
-  pick,
-  fsplit,
-  fjoin,
-  feqI,
-  await,
-}
+use types.Kit.{Given, Item, Goal, Soaks, Seq, Step, step, ‵, _⊛_, some, later, _$_, move, use1, use3, drop, split, pick, fsplit, fjoin}
+use types.Kit.{feqI, await}
 use types.Tokens.{lft-new, lft-end, lent-back}
 use types.SemTy.{cells, Arr}
 use types.Share.{arr-parts}

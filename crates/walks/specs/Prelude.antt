@@ -1,4 +1,4 @@
--- The names that a walk by hand needs, under one module: of the language's library, the logic, and `Loan` and `Walk`. Assumes `Given`.
+-- The names that a walk by hand needs, under one module: of the language's library, of the logic, and of this crate. Assumes `Given`.
 pub use mathlib.Core.Path.{_≡_, refl, sym, _∙_, ap, subst}
 pub use Prim.Native.Nat.{ℕ, _+_, _-_, _≤_, _<_}
 pub use mathlib.Core.Bool.{Bool, true, false, not}
@@ -25,7 +25,38 @@ pub use ghost.Atoms.{Atoms}
 pub use contract.Monad.{Fun}
 unfoldable pub use contract.Running.{givenOf, tables, tablesOf}
 pub use types.Kit.{Given, Item, ‵, runs, anyQ, atRet, Sq, _$_, _∵_, !, by, rewrite}
-pub use types.Run.{look, look-raw, store-raw, init, hop, fld, addr, stop, from, load, lit, unit-lit, true-lit, false-lit, of-opd, and-then, no-more, assigns, land, land-last, returns, returns-within, store, bin, first, blocks as within-block, exec, Below as Lower, again, loops}
+pub use types.Run.{
+  look,
+  look-raw,
+  store-raw,
+  init,
+  hop,
+  fld,
+  addr,
+  stop,
+  from,
+  load,
+  lit,
+  unit-lit,
+  true-lit,
+  false-lit,
+  of-opd,
+  and-then,
+  no-more,
+  assigns,
+  land,
+  land-last,
+  returns,
+  returns-within,
+  store,
+  bin,
+  first,
+  blocks as within-block,
+  exec,
+  Below as Lower,
+  again,
+  loops,
+}
 pub use denote.RattleType.{RattleType}
 pub use denote.Builtin.{u8, u16, u32, u64, usize, i32, bool, unit}
 pub use denote.Slice.{slice-vals}
@@ -33,7 +64,26 @@ pub use denote.Triple.Spec.{tripleOf, Meets}
 pub use denote.Triple.Clauses.{atExit}
 pub use denote.Triple.Table.{entered, cited}
 pub use Rattle.walks.specs.Loan.{Par, value, copied, viewed, lent, borrowed, Lfs, Shs, Dens, Vss, Ends, Long, ended, row, holds}
-pub use Rattle.walks.specs.Walk.{Plain, Plains, Known, spelled, fitted, met, After, Ending, ends-with, Walked, starts, reborrow, respell, opens-at, closes-at, opens-elem, closes-elem, looks-elem, shuts-elem, Bind, at, calls-of, calls-of-last, copies, cells, Inv, Turn, whiles, next-turn, forgets, dying, Blocks, envAt, leaves, told0, told2, said1, said2}
-pub use Rattle.walks.specs.Walk.{uint-plain, bool-plain, unit-plain, struct-plain, enum-plain}
-pub use Rattle.walks.specs.Local.{repeated, local, lends-local, slices-local, ends-local}
-pub use Rattle.walks.specs.Walking.{tests, checks, ne-of, not-not, lt-le, lt-lt, le-le, lt-of-lt, lt-keeps, le-keeps, below-one, le-refl}
+pub use Rattle.walks.specs.Plain.{Plain, uint-plain, bool-plain, unit-plain, struct-plain, enum-plain}
+pub use Rattle.walks.specs.Enter.{Plains, Known, spelled, fitted, met, told0, told2, said1, said2}
+pub use Rattle.walks.specs.Leave.{After, Ending, ends-with}
+pub use Rattle.walks.specs.Locals.{Blocks, envAt, dying, reborrow, respell, leaves}
+pub use Rattle.walks.specs.Open.{opens-at, closes-at, opens-elem, closes-elem, looks-elem, shuts-elem}
+pub use Rattle.walks.specs.Statements.{var, part, big-lit, sets, resets, takes, retakes, retakes-last}
+pub use Rattle.walks.specs.Call.{Bind, at, calls-of, calls-of-last, calls-to, copies, copies-but}
+pub use Rattle.walks.specs.Loop.{Walked, starts, cells, Inv, Turn, whiles, next-turn, forgets}
+pub use Rattle.walks.specs.Arrays.{repeated, local, lends-local, ends-local, lends-first, ends-first, slices-local}
+pub use Rattle.walks.specs.Tests.{
+  tests,
+  checks,
+  ne-of,
+  not-not,
+  lt-le,
+  lt-lt,
+  le-le,
+  lt-of-lt,
+  lt-keeps,
+  le-keeps,
+  below-one,
+  le-refl,
+}

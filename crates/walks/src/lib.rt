@@ -1,1 +1,1 @@
-// No code: lemmas over the walks of functions that the borrow checker does not cover.
+// Lemmas for walks by hand: see specs/. No code stands here.

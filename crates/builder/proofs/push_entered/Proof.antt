@@ -1,4 +1,4 @@
--- `builder::push_entered` meets its contract, for each answer of `enter`. Assumes nothing.
+-- `builder::push_entered` meets its contract, for each way the token was entered. Assumes nothing.
 use borrow.Author.Needs.{needs}
 use mathlib.Core.Path.{_≡_, refl, sym, ap, _∙_}
 use Prim.Native.Nat.{ℕ, _+_, _≤_}

@@ -1,2 +1,0 @@
--- What the walk of `rwkv_load` uses.
-mod Calls
