@@ -33,6 +33,7 @@ use Rattle.loading.specs.Accepted.{full-is-full}
 use Rattle.loading.specs.Left.{passed, loads-accepted, loads-loaded}
 use Rattle.demands.specs.Room.{loaded-long}
 use Rattle.demands.specs.Demand3.{demand3}
+use Rattle.demands.specs.Lent.{Plainly, replyOf, Calls, demand3-lent, replyGiven, CallsByValue, demand3-by-value}
 
 -- ---- the statements
 
@@ -80,22 +81,25 @@ pub record Gives (ts : List Token) (m : Memory) : Type 0 where
   -- the ids of a whole encoding decode to its input
   pub returns : (s : List ℕ) → scan ts s .end ≡ done → (n : ℕ) → length s ≤ n
       → decodeOn m n (scan ts s .ids) ≡ record { answer = whole (length s); cells = s }
-  -- the calls of a fresh stream are those of the plain stream
+  -- the calls of a fresh stream are those of the plain stream: by their definition, lent the stream, and by value
   pub streams : (cs : List Call) → BytePieces cs → (q : Plain) × Follows ts start cs (repliesOn m fresh cs) q
+  pub lent : Plainly replyOf (Calls m) ts
+  pub by-value : Plainly replyGiven (CallsByValue m) ts
 
--- The load of a text into m, with room for so many nodes and marks, as the contracts of the entries say it.
+-- What a text states where it is loaded into m, with room for so many nodes and marks.
+abbrev pub states : Bool → ℕ → ℕ → ℕ → Memory → List ℕ → Outcome
+states partial nodes used bases m text =
+    load partial (record { nodes = nodes; blob = length (m .blob); table = tableRoom (length (m .table)) used bases }) text
+
+-- Its load, as the contracts of the entries say it.
 module _ (partial : Bool) (nodes used bases : ℕ) (m : Memory) (text : List ℕ) (r : LoadResult) where
   abbrev pub Loads : Type 0
   Loads = LoadsTo partial nodes (tableRoom (length (m .table)) used bases) m text r
 
-  -- what the text states
-  abbrev pub states : Outcome
-  states = load partial (record { nodes = nodes; blob = length (m .blob); table = tableRoom (length (m .table)) used bases }) text
-
   -- A load that answers 0 stated tokens: the answer has their counts, and the memory left gives what they say. In full mode every byte
   -- is one of them.
   pub record TextIn (ts : List Token) : Type 0 where
-    pub tokens : states ≡ accepted ts
+    pub tokens : states partial nodes used bases m text ≡ accepted ts
     pub counts : r .answer .counts ≡ countsOf ts
     pub valid : Valid ts
     pub gives : Gives ts (r .memory)
@@ -106,7 +110,8 @@ module _ (partial : Bool) (nodes used bases : ℕ) (m : Memory) (text : List ℕ
 
   -- A text that states tokens is accepted with their counts and their memory, where that is long enough for number 1 and the text is UTF-8.
   abbrev pub TextAccepted : Type 0
-  TextAccepted = Loads → tooShort m ≡ false → wellFormed text ≡ true → (ts : List Token) → states ≡ accepted ts
+  TextAccepted = Loads → tooShort m ≡ false → wellFormed text ≡ true → (ts : List Token)
+      → states partial nodes used bases m text ≡ accepted ts
       → r ≡ record { answer = record { number = 0; place = nowhere; counts = countsOf ts }; memory = memoryOf ts m }
 
 -- ---- the proofs
@@ -180,6 +185,8 @@ loaded-gives m ts L =
           (looked L ids) (lossy-on m l n ids (none-absent L ids 0 p)) k;
       returns = λ s e n k. back l s (round-trip ts (L .valid) s e) n k;
       streams = demand3 m ts L;
+      lent = demand3-lent m ts L;
+      by-value = demand3-by-value m ts L;
     }
   where
     back : tooShort m ≡ false → (s : List ℕ) → joined ts (scan ts s .ids) ≡ s → (n : ℕ) → length s ≤ n
