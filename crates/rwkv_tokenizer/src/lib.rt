@@ -10,4 +10,7 @@ pub use decode::rwkv_decode;
 pub use decode::rwkv_decode_lossy;
 pub use decode::rwkv_decode_utf8;
 pub use encode::rwkv_encode;
+pub use lent::rwkv_add;
+pub use lent::rwkv_end;
+pub use lent::rwkv_fresh;
 pub use load::rwkv_load;

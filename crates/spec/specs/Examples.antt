@@ -1,15 +1,17 @@
--- The starred examples of document 01, "Examples on V and single lines": one table of theorems, a row each, by computation. An edit of a
--- definition that changes what it says of V is refused here. Assumes nothing.
+-- The starred examples of document 01, "Examples on V and single lines": one table of theorems, a row each, by computation. Rows on V are
+-- said of the entries' own definitions, number 1 and the order of refusals included. The last rows are not starred: the lengths of a
+-- token. An edit of a definition that changes what it says here is refused here. Assumes nothing.
 use mathlib.Core.Path.{_≡_, refl, ap, _∙_}
 use mathlib.Core.Bool.{true, false}
 use mathlib.Core.Option.{none, some}
 use mathlib.Core.List.{List, [], _∷_, _++_, append-nil}
 use Prim.Native.Nat.{ℕ, _-_}
 use native.Mathlib.Nat.{sub-self}
-use lib.ListN.{length, getD, replicate}
-use lib.Seq.{drop-nil}
+use native.Mathlib.Omega.{arith}
+use lib.ListN.{length, getD, replicate, drop-of-length-le}
 use Rattle.spec.specs.Lists.{over}
-use Rattle.spec.specs.Check.{andThen, given, need}
+use Rattle.spec.specs.Check.{pass, refuse, andThen, given, need}
+use Rattle.spec.specs.Utf8.{wellFormed}
 use Rattle.spec.specs.Digits.{digits}
 use Rattle.spec.specs.Line.{lines, fields}
 use Rattle.spec.specs.Literal.{literal}
@@ -17,29 +19,13 @@ use Rattle.spec.specs.Token.{Token, seen}
 use Rattle.spec.specs.Trie.{nodeCount}
 use Rattle.spec.specs.Layout.{tableWords}
 use Rattle.spec.specs.Scan.{done, failed, scanAt, scan, waiting, runAt, run}
-use Rattle.spec.specs.Memory.{Memory, padded, memoryOf, singleList, offsetList, blobBytes, rootList, tableList}
-use Rattle.spec.specs.Encode.{complete, unmatched, encoding}
-use Rattle.spec.specs.Decode.{decoding}
-use Rattle.spec.specs.Decode as decode
-use Rattle.spec.specs.Load.{
-  Room,
-  accepted,
-  load,
-  takeLines,
-  takeLine,
-  readLine,
-  readFields,
-  idRule,
-  readToken,
-  lengthRule,
-  admit,
-  lastId,
-  finish,
-  missing,
-  countsOf,
-}
+use Rattle.spec.specs.Memory.{Memory, tooShort, padded, memoryOf, singleList, offsetList, blobBytes, rootList, tableList}
+use Rattle.spec.specs.Encode.{encodeOn}
+use Rattle.spec.specs.Decode.{decodeOn}
+use Rattle.spec.specs.Load.{tableRoom, idRule, lengthRule, readToken, readFields, readLine, admit, lastId, takeLine, nowhere, accepted}
+use Rattle.spec.specs.Load.{missing, finish, takeLines, load, countsOf, settled, loadOn}
 use Rattle.spec.specs.Answer.{whole}
-use Rattle.spec.specs.Stream.{openPhase, endedPhase, holding, stoppedAt, fresh, add, end, goesThrough}
+use Rattle.spec.specs.Stream.{openPhase, endedPhase, holding, stoppedAt, fresh, add, end, callOn}
 
 -- ── V ────────────────────────────────────────────────────────────────
 
@@ -55,47 +41,64 @@ vv =
     record { id = 1; bytes = 0x61 ∷ [] } ∷ record { id = 2; bytes = 0x62 ∷ [] } ∷ record { id = 3; bytes = 0x61 ∷ 0x62 ∷ [] }
     ∷ record { id = 4; bytes = 0x61 ∷ 0x62 ∷ 0x63 ∷ 0x64 ∷ [] } ∷ record { id = 5; bytes = 0x62 ∷ 0x63 ∷ [] } ∷ []
 
--- room for V: 5 nodes, 10 bytes, 512 words, and not one more
-vRoom : Room
-vRoom = record { nodes = 5; blob = 10; table = 512 }
-
-v-loads : load true vRoom vText ≡ accepted vv
-unfolding vRoom load takeLines takeLine readLine readFields idRule readToken lengthRule admit lastId finish missing andThen given need
+-- V states these, with room for 5 nodes, 10 bytes and 512 words, and not one more
+v-states : load true (record { nodes = 5; blob = 10; table = 512 }) vText ≡ accepted vv
+unfolding load takeLines takeLine readLine readFields idRule readToken lengthRule admit lastId finish missing andThen given need
     lines fields digits literal seen nodeCount blobBytes tableWords
-v-loads = refl
+v-states = refl
 
 v-counts : countsOf vv ≡ record { tokens = 5; nodes = 5; blob = 10; table = 512 }
 unfolding countsOf nodeCount blobBytes tableWords
 v-counts = refl
 
--- what V's load leaves, as its five parts
+v-text : wellFormed vText ≡ true
+unfolding wellFormed
+v-text = refl
+
+-- the capacity of a table of 512 words and of 8 words in each run of marks
+v-room : tableRoom 512 8 8 ≡ 512
+unfolding tableRoom
+v-room = refl
+
+-- what the load leaves, as its five parts
 abbrev vMemory : Memory
 vMemory = record { single = singleList vv; offsets = offsetList vv; blob = blobBytes vv; roots = rootList vv; table = tableList vv }
 
-over-nothing : {A : Type 0} (l : List A) → over l [] ≡ l
-over-nothing l = ap (λ (r : List _). l ++ r) (drop-nil (length l)) ∙ append-nil l
+over-all : {A : Type 0} (l m : List A) → length m ≡ length l → over l m ≡ l
+over-all l m e = ap (λ (r : List _). l ++ r) (drop-of-length-le m {i = length l} (omega (arith, e))) ∙ append-nil l
 
 padded-full : (l : List ℕ) (n : ℕ) → n ≡ length l → padded l n ≡ l
 padded-full l n e = ap (λ (k : ℕ). l ++ replicate k 0) (ap (λ (k : ℕ). k - length l) e ∙ sub-self (length l)) ∙ append-nil l
 
--- memory lent with just room for the tokens' bytes and words, and nothing past the fixed lengths, is left as these parts
-leaves : (ts : List Token) (blob table : List ℕ) → length blob ≡ length (blobBytes ts) → length table ≡ length (tableList ts)
-    → memoryOf ts (record { single = []; offsets = []; blob = blob; roots = []; table = table })
-    ≡ record { single = singleList ts; offsets = offsetList ts; blob = blobBytes ts; roots = rootList ts; table = tableList ts }
-unfolding memoryOf
-leaves ts blob table b t =
-    cc (
-      over-nothing (singleList ts),
-      over-nothing (offsetList ts),
-      over-nothing (rootList ts),
-      padded-full (blobBytes ts) (length blob)
-          b,
-      padded-full (tableList ts) (length table) t,
-    )
+-- memory of just these lengths, whatever it holds
+module _ (m : Memory) (single : length (m .single) ≡ 256) (offsets : length (m .offsets) ≡ 65537) (blob : length (m .blob) ≡ 10)
+    (roots : length (m .roots) ≡ 65536) (table : length (m .table) ≡ 512) where
+  long : tooShort m ≡ false
+  unfolding tooShort
+  long = rw (single, offsets, roots)
 
-v-leaves : memoryOf vv (record { single = []; offsets = []; blob = replicate 10 0; roots = []; table = replicate 512 0 }) ≡ vMemory
-unfolding blobBytes tableList
-v-leaves = leaves vv (replicate 10 0) (replicate 512 0) refl refl
+  left : memoryOf vv m ≡ vMemory
+  unfolding memoryOf singleList offsetList blobBytes rootList tableList
+  left =
+      cc (
+        over-all (singleList vv) (m .single) single,
+        over-all (offsetList vv) (m .offsets) offsets,
+        padded-full (blobBytes vv) (length (m .blob)) blob,
+        over-all (rootList vv) (m .roots) roots,
+        padded-full (tableList vv) (length (m .table)) table,
+      )
+
+  -- V loads: 5 tokens, 5 nodes, 10 blob bytes, 512 words; number 2's offset k plays no part
+  v-loads : (k : ℕ) → loadOn k true 5 (tableRoom 512 8 8) m vText ≡ record {
+    answer = record { number = 0; place = nowhere; counts = record { tokens = 5; nodes = 5; blob = 10; table = 512 } };
+    memory = vMemory;
+  }
+  unfolding loadOn settled
+  v-loads k =
+      rw (long, loadOn)
+      (rw v-text
+      (ap (settled m) ((λ i. load true (record { nodes = 5; blob = blob i; table = v-room i }) vText) ∙ v-states)
+      ∙ (λ i. record { answer = record { number = 0; place = nowhere; counts = v-counts i }; memory = left i })))
 
 v-root : getD (vMemory .roots) 0x6162 0 ≡ 0x16300000300
 unfolding rootList
@@ -112,23 +115,25 @@ v-word-257 = refl
 -- ── Encoding ─────────────────────────────────────────────────────────
 
 -- abcd gives 4
-abcd : encoding vMemory 4 (0x61 ∷ 0x62 ∷ 0x63 ∷ 0x64 ∷ []) ≡ record { ids = 4 ∷ []; end = complete }
-unfolding encoding singleList offsetList blobBytes rootList tableList
+abcd : encodeOn vMemory 4 (0x61 ∷ 0x62 ∷ 0x63 ∷ 0x64 ∷ []) ≡ record { answer = whole 1; cells = 4 ∷ [] }
+unfolding encodeOn singleList offsetList blobBytes rootList tableList
 abcd = refl
 
 -- aab gives 1, 3
-aab : encoding vMemory 3 (0x61 ∷ 0x61 ∷ 0x62 ∷ []) ≡ record { ids = 1 ∷ 3 ∷ []; end = complete }
-unfolding encoding singleList offsetList blobBytes rootList tableList
+aab : encodeOn vMemory 3 (0x61 ∷ 0x61 ∷ 0x62 ∷ []) ≡ record { answer = whole 2; cells = 1 ∷ 3 ∷ [] }
+unfolding encodeOn singleList offsetList blobBytes rootList tableList
 aab = refl
 
 -- abbc gives 3, 5
-abbc : encoding vMemory 4 (0x61 ∷ 0x62 ∷ 0x62 ∷ 0x63 ∷ []) ≡ record { ids = 3 ∷ 5 ∷ []; end = complete }
-unfolding encoding singleList offsetList blobBytes rootList tableList
+abbc : encodeOn vMemory 4 (0x61 ∷ 0x62 ∷ 0x62 ∷ 0x63 ∷ []) ≡ record { answer = whole 2; cells = 3 ∷ 5 ∷ [] }
+unfolding encodeOn singleList offsetList blobBytes rootList tableList
 abbc = refl
 
 -- abc gives 3, then 22 at offset 2, byte 63 hex
-abc : encoding vMemory 3 (0x61 ∷ 0x62 ∷ 0x63 ∷ []) ≡ record { ids = 3 ∷ []; end = unmatched 2 0x63 }
-unfolding encoding singleList offsetList blobBytes rootList tableList
+abc :
+    encodeOn vMemory 3 (0x61 ∷ 0x62 ∷ 0x63 ∷ [])
+    ≡ record { answer = record { number = 22; count = 1; place = 2; value = 0x63 }; cells = 3 ∷ [] }
+unfolding encodeOn singleList offsetList blobBytes rootList tableList
 abc = refl
 
 -- the same of the scan on tokens
@@ -154,40 +159,40 @@ abc-scan = refl
 
 -- Pieces ab, b, c: none, then 3, then 5; end none.
 ab-none :
-    goesThrough vMemory fresh (add (0x61 ∷ 0x62 ∷ []) (replicate 2 0))
+    callOn vMemory fresh (add (0x61 ∷ 0x62 ∷ []) (replicate 2 0))
     ≡ record { answer = whole 0; stream = holding openPhase 2 (0x61 ∷ 0x62 ∷ []); ids = [] }
-unfolding goesThrough singleList offsetList blobBytes rootList tableList
+unfolding callOn singleList offsetList blobBytes rootList tableList
 ab-none = refl
 
 b-three :
-    goesThrough vMemory (holding openPhase 2 (0x61 ∷ 0x62 ∷ [])) (add (0x62 ∷ []) (replicate 3 0))
+    callOn vMemory (holding openPhase 2 (0x61 ∷ 0x62 ∷ [])) (add (0x62 ∷ []) (replicate 3 0))
     ≡ record { answer = whole 1; stream = holding openPhase 3 (0x62 ∷ []); ids = 3 ∷ [] }
-unfolding goesThrough singleList offsetList blobBytes rootList tableList
+unfolding callOn singleList offsetList blobBytes rootList tableList
 b-three = refl
 
 c-five :
-    goesThrough vMemory (holding openPhase 3 (0x62 ∷ [])) (add (0x63 ∷ []) (replicate 2 0))
+    callOn vMemory (holding openPhase 3 (0x62 ∷ [])) (add (0x63 ∷ []) (replicate 2 0))
     ≡ record { answer = whole 1; stream = holding openPhase 4 []; ids = 5 ∷ [] }
-unfolding goesThrough singleList offsetList blobBytes rootList tableList
+unfolding callOn singleList offsetList blobBytes rootList tableList
 c-five = refl
 
 end-none :
-    goesThrough vMemory (holding openPhase 4 []) (end [])
+    callOn vMemory (holding openPhase 4 []) (end [])
     ≡ record { answer = whole 0; stream = holding endedPhase 4 []; ids = [] }
-unfolding goesThrough singleList offsetList blobBytes rootList tableList
+unfolding callOn singleList offsetList blobBytes rootList tableList
 end-none = refl
 
 -- Piece abc, end: none, then 3 and 22 at 2.
 abc-none :
-    goesThrough vMemory fresh (add (0x61 ∷ 0x62 ∷ 0x63 ∷ []) (replicate 3 0))
+    callOn vMemory fresh (add (0x61 ∷ 0x62 ∷ 0x63 ∷ []) (replicate 3 0))
     ≡ record { answer = whole 0; stream = holding openPhase 3 (0x61 ∷ 0x62 ∷ 0x63 ∷ []); ids = [] }
-unfolding goesThrough singleList offsetList blobBytes rootList tableList
+unfolding callOn singleList offsetList blobBytes rootList tableList
 abc-none = refl
 
 abc-ends :
-    goesThrough vMemory (holding openPhase 3 (0x61 ∷ 0x62 ∷ 0x63 ∷ [])) (end (replicate 3 0))
+    callOn vMemory (holding openPhase 3 (0x61 ∷ 0x62 ∷ 0x63 ∷ [])) (end (replicate 3 0))
     ≡ record { answer = record { number = 22; count = 1; place = 2; value = 0x63 }; stream = stoppedAt 3 2 0x63; ids = 3 ∷ [] }
-unfolding goesThrough singleList offsetList blobBytes rootList tableList
+unfolding callOn singleList offsetList blobBytes rootList tableList
 abc-ends = refl
 
 -- the same of the running form on tokens: what is handed out after ab, abb, abbc, abc
@@ -210,13 +215,15 @@ run-abc = refl
 -- ── Decoding ─────────────────────────────────────────────────────────
 
 -- Decoding 4, 1 gives abcda
-decode-4-1 : decoding vMemory 5 (4 ∷ 1 ∷ []) ≡ record { bytes = 0x61 ∷ 0x62 ∷ 0x63 ∷ 0x64 ∷ 0x61 ∷ []; end = decode.complete }
-unfolding decoding singleList offsetList blobBytes rootList tableList
+decode-4-1 : decodeOn vMemory 5 (4 ∷ 1 ∷ []) ≡ record { answer = whole 5; cells = 0x61 ∷ 0x62 ∷ 0x63 ∷ 0x64 ∷ 0x61 ∷ [] }
+unfolding decodeOn singleList offsetList blobBytes rootList tableList
 decode-4-1 = refl
 
 -- 3, 0 gives 27 at index 1
-decode-3-0 : decoding vMemory 5 (3 ∷ 0 ∷ []) ≡ record { bytes = 0x61 ∷ 0x62 ∷ []; end = decode.absent 1 0 }
-unfolding decoding singleList offsetList blobBytes rootList tableList
+decode-3-0 :
+    decodeOn vMemory 5 (3 ∷ 0 ∷ [])
+    ≡ record { answer = record { number = 27; count = 2; place = 1; value = 0 }; cells = 0x61 ∷ 0x62 ∷ [] }
+unfolding decodeOn singleList offsetList blobBytes rootList tableList
 decode-3-0 = refl
 
 -- ── Literals ─────────────────────────────────────────────────────────
@@ -235,3 +242,21 @@ x80-in-bytes = refl
 zero-then-one : literal (0x27 ∷ 0x5C ∷ 0x30 ∷ 0x31 ∷ 0x27 ∷ []) ≡ some (0x00 ∷ 0x31 ∷ [])
 unfolding literal
 zero-then-one = refl
+
+-- ── Lengths ──────────────────────────────────────────────────────────
+
+-- "Length 255 loads; 256 declared 256: 15, declared 255: 14."
+abbrev of-length : ℕ → Token
+of-length n = record { id = 1; bytes = replicate n 0x61 }
+
+length-255 : lengthRule 255 (of-length 255) ≡ pass (of-length 255)
+unfolding lengthRule need
+length-255 = refl
+
+length-256 : lengthRule 256 (of-length 256) ≡ refuse 15
+unfolding lengthRule need
+length-256 = refl
+
+length-256-declared-255 : lengthRule 255 (of-length 256) ≡ refuse 14
+unfolding lengthRule need
+length-256-declared-255 = refl

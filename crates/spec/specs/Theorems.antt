@@ -1,5 +1,5 @@
 -- What is proved of the definitions, as statements: each theorem is a named type, and a proof of it has exactly this type.
--- The proofs stand in the crates `laws`, `running` and `demands`. Assumes nothing.
+-- The proofs stand in the crates `running`, `laws`, `loading` and `demands`. Assumes nothing.
 use mathlib.Core.Path.{_≡_}
 use mathlib.Core.Logic.{_⊎_, _↔_}
 use mathlib.Core.Bool.{Bool, true, false}
