@@ -1,10 +1,7 @@
 -- What the stores of one token make, in the terms of the contracts. Assumes nothing.
 use mathlib.Core.Path.{_≡_, refl, sym, ap, ap₂, _∙_}
-use mathlib.Core.Bool.{true, false}
-use mathlib.Core.Option.{none, some}
 use mathlib.Core.List.{List}
-use Prim.Native.Nat.{ℕ, suc, _+_, _-_, _≤_, _<_}
-use native.Mathlib.Omega.{arith}
+use Prim.Native.Nat.{ℕ, _+_, _-_}
 use lib.IntN.{ℤ, pos, negsuc}
 use lib.Dec.{leb·zero}
 use lib.ListN.{length, getD, set, replicate}
@@ -12,7 +9,7 @@ use lib.Seq.{sets}
 use lib.Signed.{leZ}
 use borrow.Author.Tests.{eq-eqb, ne-eqb}
 use Rattle.trie.specs.Turns.{yes-case, no-case}
-use Rattle.builder.specs.Built.{isTaken, setSingle, setOffsets, missingOn}
+use Rattle.builder.specs.Built.{isTaken, setSingle, setOffsets}
 
 pub taken-test : (x : ℤ) → leZ (pos 0) x ≡ isTaken x
 taken-test (pos n) = leb·zero n
@@ -31,24 +28,6 @@ pub offsets-run : (os os′ : List ℕ) (previous id total from n : ℕ) → os�
     ≡ id - previous
     → os′ ≡ setOffsets os previous id total
 offsets-run os os′ previous id total from n e a b = e ∙ ap₂ (λ (x y : ℕ). sets os (x + 1) (replicate y total)) a b
-
--- ---- the lowest byte without an id
-
-module _ (s : List ℤ) (b : ℕ) where
-  pub missing-here : b < 256 → isTaken (getD s b (pos 0)) ≡ false → some b ≡ missingOn s (256 - b) b
-  missing-here h e =
-      let k : 256 - b ≡ suc (255 - b) = omega arith in
-      sym (ap (λ (n : ℕ). missingOn s n b) k ∙ (unfold missingOn in no-case _ _ e))
-
-  pub missing-next : b < 256 → isTaken (getD s b (pos 0)) ≡ true → missingOn s (256 - (b + 1)) (b + 1) ≡ missingOn s (256 - b) b
-  missing-next h e =
-      let k : 256 - b ≡ suc (255 - b) = omega arith in
-      let j : 256 - (b + 1) ≡ 255 - b = omega arith in
-      let i : b + 1 ≡ suc b = omega arith in
-      ap₂ (missingOn s) j i ∙ sym (ap (λ (n : ℕ). missingOn s n b) k ∙ (unfold missingOn in yes-case _ _ e))
-
-  pub missing-end : 256 ≤ b → none ≡ missingOn s (256 - b) b
-  missing-end h = let k : 256 - b ≡ 0 = omega arith in sym (ap (λ (n : ℕ). missingOn s n b) k ∙ (unfold missingOn in refl))
 
 -- the offsets behind the last id
 pub total-run : (os os′ : List ℕ) (previous total from n : ℕ) → os′ ≡ sets os (from + 1) (replicate n total) → from ≡ previous → n

@@ -4,7 +4,7 @@ use mathlib.Core.Path.{_≡_}
 use mathlib.Core.Logic.{_⊎_}
 use mathlib.Core.Bool.{Bool, true, false, cond}
 use mathlib.Core.Option.{Option, none, some}
-use mathlib.Core.List.{List, [], _∷_, _++_}
+use mathlib.Core.List.{List, [], _∷_, _++_, List·Memᴰ as Mem}
 use Prim.Native.Nat.{ℕ, zero, suc, _+_, _-_, _≤_, _<_}
 use lib.Dec.{eqb}
 use lib.IntN.{ℤ, pos, negsuc}
@@ -57,6 +57,18 @@ pub record Kept (s : List ℤ) (os rs : List ℕ) (s′ : List ℤ) (os′ rs′
   pub offsets : drop 65537 os′ ≡ drop 65537 os
   pub roots : drop 65536 rs′ ≡ drop 65536 rs
 
+-- the first cells of `single` are those of the tokens, and 0 is no token's id
+pub record SingleOf (ts : List Token) (s : List ℤ) : Type 0 where
+  pub low : (u : Token) → Mem u ts → 1 ≤ u .id
+  pub cells : take 256 s ≡ singleList ts
+
+-- `st` counts the tokens
+pub record Counts (ts : List Token) (st : Build) : Type 0 where
+  pub previous : st .previous ≡ lastId ts
+  pub tokens : st .tokens ≡ length ts
+  pub made : st .made ≡ nodeCount ts
+  pub used : st .used ≡ length (blobBytes ts)
+
 -- numbers of a build that fit their widths: those of every valid vocabulary do
 pub record Small (st : Build) : Type 0 where
   pub tokens : st .tokens ≤ 65535
@@ -105,11 +117,6 @@ unless zero rest = rest
 unless (suc n) rest = refuse (suc n)
 
 -- ---- the end
-
--- the lowest byte from b on, of n, whose cell of `single` holds no id
-unfoldable pub missingOn : List ℤ → ℕ → ℕ → Option ℕ
-missingOn s zero b = none
-missingOn s (suc n) b = let rest = missingOn s n (suc b) in cond (isTaken (getD s b (pos 0))) rest (some b)
 
 -- the byte of an answer
 abbrev pub missingOf : Missing → Option ℕ

@@ -3,16 +3,16 @@ use mathlib.Core.Path.{_≡_, refl, sym, ap, ap₂, _∙_, subst}
 use mathlib.Core.Logic.{inl, inr}
 use mathlib.Core.Bool.{Bool, true, false, cond}
 use mathlib.Core.Option.{Option, none, some}
-use mathlib.Core.List.{List, [], _∷_, _++_, List·Memᴰ as Mem}
+use mathlib.Core.List.{List, [], _∷_, _++_}
 use Prim.Native.Nat.{ℕ, zero, suc, _+_, _-_, _≤_, _<_}
 use native.Mathlib.Omega.{arith}
-use lib.IntN.{ℤ}
+use lib.IntN.{ℤ, pos}
 use lib.Dec.{leb}
 use lib.ListN.{length, take, drop, getD, replicate, length-replicate, getD-replicate, take-append-drop}
 use lib.Seq.{length-sets}
 use borrow.Author.Tests.{leb-true, leb-false}
 use Rattle.spec.specs.Lists.{over, upFrom}
-use Rattle.spec.specs.Token.{Token}
+use Rattle.spec.specs.Token.{Token, seen}
 use Rattle.trie.specs.Run.{Nodes}
 use Rattle.spec.specs.Layout.{tableWords}
 use Rattle.spec.specs.Memory.{memory, lengthBefore, singleList, offsetList}
@@ -23,7 +23,7 @@ use Rattle.laws.specs.Spans.{before-all}
 use Rattle.packing.specs.Answer.{capacity, answerFor, PackedAs}
 use Rattle.packing.specs.declared.Packed.{Packed}
 use Rattle.packing.specs.declared.Packed.the-variants.{Words, NoRoom}
-use Rattle.builder.specs.Built.{Built, Kept, setOffsets, missingOn, missingOf, FinishedAs, finishedOf}
+use Rattle.builder.specs.Built.{Built, Kept, SingleOf, isTaken, setOffsets, missingOf, FinishedAs, finishedOf}
 use Rattle.builder.specs.Cells.{run-before, run-in, run-behind, by-index}
 use Rattle.builder.specs.Grow.{taken-seen, last-most}
 use Rattle.builder.specs.declared.Build.{Build}
@@ -43,15 +43,33 @@ module _ {s s′ : List ℤ} {os os′ bl bl′ rs rs′ tb tb′ : List ℕ} wh
   pub same-memory : s ≡ s′ → os ≡ os′ → bl ≡ bl′ → rs ≡ rs′ → tb ≡ tb′ → memory s os bl rs tb ≡ memory s′ os′ bl′ rs′ tb′
   same-memory a b c d e = cc
 
--- ---- a byte that is missing
+-- ---- a byte that is missing, by its cell of `single`
 
-missing-is : (ts : List Token) → ((u : Token) → Mem u ts → 1 ≤ u .id) → (s : List ℤ) → take 256 s ≡ singleList ts
-    → (n b : ℕ) → n + b ≤ 256 → missingOn s n b ≡ missing ts n b
-unfolding missingOn missing
-missing-is ts low s e zero b h = refl
-missing-is ts low s e (suc n) b h =
-    ap₂ (λ (c : Bool) (o : Option ℕ). cond c o (some b)) (taken-seen ts low s e b (omega arith))
-    (missing-is ts low s e n (suc b) (omega arith))
+pub single-of : {ts : List Token} {s : List ℤ} {os bl rs : List ℕ} {ns : Nodes} {st : Build} → Built ts s os bl rs ns st → SingleOf ts s
+single-of B = record { low = B .stands .low; cells = B .single }
+
+module _ (ts : List Token) (s : List ℤ) (S : SingleOf ts s) (b : ℕ) where
+  step : (n : ℕ) → missing ts (suc n) b ≡ cond (seen ts (b ∷ [])) (missing ts n (suc b)) (some b)
+  unfolding missing
+  step n = refl
+
+  here : b < 256 → (d : Bool) → isTaken (getD s b (pos 0)) ≡ d
+      → missing ts (256 - b) b ≡ cond d (missing ts (256 - (b + 1)) (b + 1)) (some b)
+  here h d e =
+      let k : 256 - b ≡ suc (255 - b) = omega arith in
+      let j : 255 - b ≡ 256 - (b + 1) = omega arith in
+      let i : suc b ≡ b + 1 = omega arith in
+      ap (λ (n : ℕ). missing ts n b) k ∙ step (255 - b)
+      ∙ ap₂ (λ (c : Bool) (o : Option ℕ). cond c o (some b)) (sym (taken-seen ts (S .low) s (S .cells) b h) ∙ e) (ap₂ (missing ts) j i)
+
+  pub missing-here : b < 256 → isTaken (getD s b (pos 0)) ≡ false → some b ≡ missing ts (256 - b) b
+  missing-here h e = sym (here h false e)
+
+  pub missing-next : b < 256 → isTaken (getD s b (pos 0)) ≡ true → missing ts (256 - (b + 1)) (b + 1) ≡ missing ts (256 - b) b
+  missing-next h e = sym (here h true e)
+
+pub missing-end : (ts : List Token) (b : ℕ) → 256 ≤ b → none ≡ missing ts (256 - b) b
+missing-end ts b h = let k : 256 - b ≡ 0 = omega arith in sym (ap (λ (n : ℕ). missing ts n b) k ∙ (unfold missing in refl))
 
 -- ---- the offsets behind the last id
 
@@ -110,9 +128,6 @@ module _ (partial : Bool) (r : Room) where
     abbrev As : Finished → Type 0
     As f = FinishedAs partial r ts f os rs tb os′ rs′ tb′
 
-    wanted : demanded partial (missingOn s 256 0) ≡ demanded partial (missing ts 256 0)
-    wanted = ap (demanded partial) (missing-is ts (B .stands .low) s (B .single) 256 0 (omega arith))
-
     pub finished-none : st .tokens ≡ 0 → As Finished.NoTokens
     finished-none e = finish-none ts (let k = B .tokens in omega arith)
 
@@ -120,14 +135,14 @@ module _ (partial : Bool) (r : Room) where
       some-tokens : length ts ≡ 0 → ⊥
       some-tokens e = tokens (let k = B .tokens in omega arith)
 
-      goes : (o : Option ℕ) → demanded partial (missingOn s 256 0) ≡ o → finish partial r ts ≡ ending o ts
-      goes o e = finish-some ts some-tokens ∙ ap (λ (x : Option ℕ). ending x ts) (sym wanted ∙ e)
+      goes : (o : Option ℕ) → demanded partial (missing ts 256 0) ≡ o → finish partial r ts ≡ ending o ts
+      goes o e = finish-some ts some-tokens ∙ ap (λ (x : Option ℕ). ending x ts) e
 
-      pub finished-wanting : (m : Missing) → missingOf m ≡ demanded partial (missingOn s 256 0) → (b : ℕ) → m ≡ Byte b
+      pub finished-wanting : (m : Missing) → missingOf m ≡ demanded partial (missing ts 256 0) → (b : ℕ) → m ≡ Byte b
           → As (Finished.Wanting b)
       finished-wanting m e b k = goes (some b) (sym e ∙ ap missingOf k)
 
-      module _ (e : demanded partial (missingOn s 256 0) ≡ none) (most : ℕ) (is : r .table ≡ most)
+      module _ (e : demanded partial (missing ts 256 0) ≡ none) (most : ℕ) (is : r .table ≡ most)
           (p : Packed) (P : PackedAs ts most rs tb p rs′ tb′) where
         last-test : finish partial r ts ≡ cond (leb (tableWords ts) most) (accepted ts) (refused 21 nowhere)
         last-test = goes none e ∙ ap (λ (n : ℕ). cond (leb (tableWords ts) n) (accepted ts) (refused 21 nowhere)) is
@@ -154,7 +169,7 @@ module _ (partial : Bool) (r : Room) where
             go false z = let y : _≡_ {A = ℕ} 0 1 = cc in absurd (omega arith)
 
       -- what follows the packing
-      pub finished-as : demanded partial (missingOn s 256 0) ≡ none → (most : ℕ) → r .table ≡ most → (p : Packed)
+      pub finished-as : demanded partial (missing ts 256 0) ≡ none → (most : ℕ) → r .table ≡ most → (p : Packed)
           → PackedAs ts most rs tb p rs′ tb′ → 65537 ≤ length os → st .previous < 65536
           → os′ ≡ setOffsets os (st .previous) 65536 (st .used) → (f : Finished) → f ≡ finishedOf p → As f
       finished-as e most is (Words n) P long small eo f ef = subst As (sym ef)

@@ -39,7 +39,7 @@ use Rattle.trie.specs.Stands.{Stands, Grown, answerFor}
 use Rattle.trie.specs.Grow.{seen-id, stands-one, nodes-one}
 use Rattle.trie.specs.declared.Inserted.{Inserted}
 use Rattle.trie.specs.declared.Inserted.the-variants.{Duplicate, NoRoom, Made}
-use Rattle.builder.specs.Built.{Built, Kept, roomFor, PushedAs, isTaken, noRoom, oneEntered, setSingle, setOffsets}
+use Rattle.builder.specs.Built.{Built, Kept, Counts, roomFor, PushedAs, isTaken, noRoom, oneEntered, setSingle, setOffsets}
 use Rattle.builder.specs.Cells.{run-before, run-in, run-behind, pad-more, by-index}
 use Rattle.builder.specs.declared.Build.{Build}
 use Rattle.builder.specs.declared.Pushed.{Pushed}
@@ -407,19 +407,19 @@ module _ {ts : List Token} {s : List ℤ} {os bl rs : List ℕ} {ns : Nodes} {st
       ∙ ap (λ (l : List ℕ). padded l (length bl)) (sym (blob-snoc ts t))
 
   pub built-more : (n : ℕ) (rs′ : List ℕ) (ns′ : Nodes) → Grown ts t (room ns) (Made n) rs′ ns′ → length ns′ ≡ length ns
-      → Built ts′ (setSingle s (t .id) bs) (setOffsets os (st .previous) (t .id) (st .used)) (sets bl (st .used) bs) rs′ ns′
-      (record { previous = t .id; tokens = st .tokens + 1; made = n; used = st .used + length bs })
-  built-more n rs′ ns′ G same =
+      → (st′ : Build) → Counts ts′ st′
+      → Built ts′ (setSingle s (t .id) bs) (setOffsets os (st .previous) (t .id) (st .used)) (sets bl (st .used) bs) rs′ ns′ st′
+  built-more n rs′ ns′ G same st′ C =
       let E = entered ts t ns bl rs′ ns′ 0 n G in
       let w = length-sets bl (st .used) bs in
       record {
         valid = valid-snoc ts t (B .valid) r new;
-        previous = sym (last-snoc ts t);
-        tokens = (let a = B .tokens in let c = length-append ts (t ∷ []) in let d : length (t ∷ []) ≡ 1 = refl in omega arith);
-        made = E .count;
-        used = (let a = B .used in let c = total-snoc ts t in omega arith);
+        previous = C .previous;
+        tokens = C .tokens;
+        made = C .made;
+        used = C .used;
         single = single-list;
-        offsets = offsets-more;
+        offsets = λ i h. offsets-more i (let a = C .previous in let c = last-snoc ts t in omega arith);
         blob = blob-more ∙ ap (padded (blobBytes ts′)) (sym w);
         blob-room = (let a = B .used in let c = total-snoc ts t in omega arith);
         stands = G .stands n refl;
@@ -443,14 +443,33 @@ offsets-kept os previous id total h k =
 
 -- ---- what `push` answers, for each way a token was entered
 
+-- a token more is counted
+pub counts-more : (ts : List Token) (t : Token) {st : Build} → Counts ts st → (r : Build) → r .previous ≡ t .id → r .tokens ≡ st .tokens + 1
+    → r .made ≡ nodeCount (ts ++ (t ∷ [])) → r .used ≡ st .used + length (t .bytes) → Counts (ts ++ (t ∷ [])) r
+counts-more ts t C r ep et em eu = record {
+  previous = ep ∙ sym (last-snoc ts t);
+  tokens = (let a = C .tokens in let c = length-append ts (t ∷ []) in let d : length (t ∷ []) ≡ 1 = refl in omega arith);
+  made = em;
+  used = (let a = C .used in let c = total-snoc ts t in omega arith);
+}
+
+-- what a build counts
+pub counts-of : {ts : List Token} {s : List ℤ} {os bl rs : List ℕ} {ns : Nodes} {st : Build} → Built ts s os bl rs ns st → Counts ts st
+counts-of B = record { previous = B .previous; tokens = B .tokens; made = B .made; used = B .used }
+
 -- no room even for node 0
-pub pushed-none : {ts : List Token} {s : List ℤ} {os bl rs : List ℕ} {ns : Nodes} {st : Build} → Built ts s os bl rs ns st → (t : Token)
-    (table : ℕ) (p : Pushed) → p ≡ noRoom → min (room ns) 4294967295 < st .made → PushedAs (roomFor ns bl table) ts t p s os bl rs ns
-pushed-none {ts} {s} {os} {bl} {rs} {ns} B t table p e h =
-    subst (λ (x : Pushed). PushedAs (roomFor ns bl table) ts t x s os bl rs ns) (sym e) (push-full ts t ns bl rs ns table (record {
+pub admits-none : {ts : List Token} {s : List ℤ} {os bl rs : List ℕ} {ns : Nodes} {st : Build} → Built ts s os bl rs ns st → (t : Token)
+    (table : ℕ) → min (room ns) 4294967295 < st .made → admit (roomFor ns bl table) ts t ≡ refuse 17
+admits-none {ts} {s} {os} {bl} {rs} {ns} B t table h =
+    push-full ts t ns bl rs ns table (record {
       answer = answer-full ts (B .valid) t (room ns) (B .node-room) (let k = B .made in omega arith);
       stands = λ n k. absurd (noRoom≢made n k);
-    }))
+    })
+
+pub pushed-none : (ts : List Token) (t : Token) (s : List ℤ) (os bl rs : List ℕ) (ns : Nodes) (table : ℕ) (p : Pushed) → p ≡ noRoom
+    → admit (roomFor ns bl table) ts t ≡ refuse 17 → PushedAs (roomFor ns bl table) ts t p s os bl rs ns
+pushed-none ts t s os bl rs ns table p e h =
+    subst (λ (x : Pushed). PushedAs (roomFor ns bl table) ts t x s os bl rs ns) (sym e) h
 
 -- a token with an id above the last one and 1 to 255 bytes
 pub reads-of : {ts : List Token} {s : List ℤ} {os bl rs : List ℕ} {ns : Nodes} {st : Build} → Built ts s os bl rs ns st → (t : Token)
@@ -458,14 +477,12 @@ pub reads-of : {ts : List Token} {s : List ℤ} {os bl rs : List ℕ} {ns : Node
     → 1 ≤ length (t .bytes) → length (t .bytes) ≤ 255 → Bytes (t .bytes) → Reads (lastId ts) t
 reads-of B t a b c d e = record { above = (let k = B .previous in omega arith); small = b; nonempty = c; short = d; bytes = e }
 
-same-built : {ts : List Token} {s s′ : List ℤ} {os os′ bl bl′ rs : List ℕ} {ns : Nodes} {st st′ : Build} → s′ ≡ s → os′ ≡ os → bl′ ≡ bl
-    → st′ ≡ st
-    → Built ts s os bl rs ns st → Built ts s′ os′ bl′ rs ns st′
-same-built {ts} {s} {s′} {os} {os′} {bl} {bl′} {rs} {ns} {st} {st′} a b c d B =
-    subst (λ (x : List ℤ). Built ts x os′ bl′ rs ns st′) (sym a)
-    (subst (λ (x : List ℕ). Built ts s x bl′ rs ns st′) (sym b)
-    (subst (λ (x : List ℕ). Built ts s os x rs ns st′) (sym c)
-    (subst (λ (x : Build). Built ts s os bl rs ns x) (sym d) B)))
+same-built : {ts : List Token} {s s′ : List ℤ} {os os′ bl bl′ rs : List ℕ} {ns : Nodes} {st : Build} → s′ ≡ s → os′ ≡ os → bl′ ≡ bl
+    → Built ts s os bl rs ns st → Built ts s′ os′ bl′ rs ns st
+same-built {ts} {s} {s′} {os} {os′} {bl} {bl′} {rs} {ns} {st} a b c B =
+    subst (λ (x : List ℤ). Built ts x os′ bl′ rs ns st) (sym a)
+    (subst (λ (x : List ℕ). Built ts s x bl′ rs ns st) (sym b)
+    (subst (λ (x : List ℕ). Built ts s os x rs ns st) (sym c) B))
 
 module _ {ts : List Token} {s : List ℤ} {os bl rs : List ℕ} {ns : Nodes} {st : Build} (B : Built ts s os bl rs ns st) (t : Token)
     (r : Reads (lastId ts) t)
@@ -489,12 +506,14 @@ module _ {ts : List Token} {s : List ℤ} {os bl rs : List ℕ} {ns : Nodes} {st
       ≡ length ns
       → (s′ : List ℤ) → s′ ≡ setSingle s (t .id) (t .bytes) → (os′ : List ℕ) → os′ ≡ setOffsets os (st .previous) (t .id) (st .used)
       → (bl′ : List ℕ) → bl′ ≡ sets bl (st .used) (t .bytes)
-      → (st′ : Build) → st′ ≡ record { previous = t .id; tokens = st .tokens + 1; made = n; used = st .used + length (t .bytes) }
+      → (st′ : Build) → ((ts : List Token) (u : Token) → Counts ts st → u .id ≡ t .id → length (u .bytes) ≡ length (t .bytes)
+      → n ≡ nodeCount (ts ++ (u ∷ [])) → Counts (ts ++ (u ∷ [])) st′)
       → As (Taken st′) s′ os′ bl′
-  pushed-taken n e fs fo fb same s′ es os′ eo bl′ eb st′ est = (
-    push-passes ts t ns bl rs′ ns′ table n (now-is e) (let k = B .used in omega arith),
-    same-built es eo eb est (built-more B t r (entered ts t ns bl rs′ ns′ table n (now-is e) .new) fs fo fb n rs′ ns′ (now-is e) same),
-  )
+  pushed-taken n e fs fo fb same s′ es os′ eo bl′ eb st′ C =
+      let E = entered ts t ns bl rs′ ns′ table n (now-is e) in (
+        push-passes ts t ns bl rs′ ns′ table n (now-is e) (let k = B .used in omega arith),
+        same-built es eo eb (built-more B t r (E .new) fs fo fb n rs′ ns′ (now-is e) same st′ (C ts t (counts-of B) refl refl (E .count))),
+      )
 
 -- cells past the fixed lengths, where a token was written
 pub all-kept : {s s′ : List ℤ} {os os′ rs rs′ : List ℕ} (bs : List ℕ) (previous id total : ℕ) → getD bs 0 0 < 256 → previous < id

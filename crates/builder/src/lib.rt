@@ -5,21 +5,23 @@ pub mod rules;
 ghost use mathlib.Core.Path.{_≡_};
 ghost use mathlib.Core.Bool.{not};
 ghost use mathlib.Core.Option.{none};
-ghost use mathlib.Core.List.{List, []};
+ghost use mathlib.Core.List.{List, [], _∷_, _++_};
 ghost use Prim.Native.Nat.{ℕ, _+_, _≤_, _<_, min};
-ghost use lib.IntN.{pos};
-ghost use lib.Dec.{T, ltb};
+ghost use lib.IntN.{ℤ, pos};
+ghost use lib.Dec.{T};
 ghost use lib.ListN.{length, getD, take};
 ghost use lib.Seq.{sets};
 ghost use Rattle.spec.specs.Token.{Token};
 ghost use Rattle.spec.specs.Memory.{memory, emptied};
-ghost use Rattle.spec.specs.Load.{Room, tableRoom, lastId, demanded};
+ghost use Rattle.spec.specs.Trie.{nodeCount};
+ghost use Rattle.spec.specs.Check.{refuse};
+ghost use Rattle.spec.specs.Load.{Room, tableRoom, admit, lastId, missing, demanded};
 ghost use Rattle.laws.specs.Reads.{LongEnough};
 ghost use Rattle.loading.specs.Accepted.{Reads};
 ghost use Rattle.trie.specs.Run.{Nodes, room};
 ghost use Rattle.trie.specs.Stands.{Grown, RootsKept};
-ghost use Rattle.builder.specs.Built.{Built, Kept, Small, roomFor, PushedAs, isTaken, setSingle, setOffsets};
-ghost use Rattle.builder.specs.Built.{missingOn, missingOf, FinishedAs, noRoom, oneEntered, finishedOf, isStop, finishedBy};
+ghost use Rattle.builder.specs.Built.{Built, Kept, SingleOf, Counts, Small, roomFor, PushedAs, isTaken, setSingle, setOffsets};
+ghost use Rattle.builder.specs.Built.{missingOf, FinishedAs, noRoom, oneEntered, finishedOf, isStop, finishedBy};
 use trie::Node;
 
 // "After 3 to 21 the vocabulary memory is emptied: `single` all −1, the rest 0."
@@ -166,9 +168,12 @@ fn enter_one(single: &[i32], made: u32, bytes: &[u8]) -> trie::Inserted
     trie::Inserted::Made(made)
 }
 
-// Whether more nodes are in use than there is room for. Where just as many are, a token that makes no node still has its place.
+// Whether more nodes are in use than there is room for: there is none even for node 0, and every token is refused with 17. Where just as
+// many are, a token that makes no node still has its place.
 fn is_full(most: u32, made: u32) -> bool
-    ensures { λ r. ⌜ r ≡ ltb most made ⌝ }
+    ensures full { λ r. ⌜ (T r → (table : ℕ) (ts : List Token) (t : Token) (s : List ℤ) (os bl rs : List ℕ) (ns : Nodes) (st : Build)
+        → Built ts s os bl rs ns st → most ≡ min (room ns) 4294967295 → made ≡ st .made → admit (roomFor ns bl table) ts t ≡ refuse 17) ⌝ }
+    ensures goes { λ r. ⌜ (T (not r) → made ≤ most) ⌝ }
 {
     most < made
 }
@@ -186,10 +191,11 @@ fn write(single: &mut [i32], offsets: &mut [u32], blob: &mut [u8], st: Build, id
     fill::copy(blob, wide(st.used), bytes);
 }
 
-// The build with a token of this many bytes more.
+// The build with a token of this many bytes more, with which so many nodes are made.
 fn counted(st: Build, id: u16, made: u32, len: usize) -> Build
     requires { ⌜ Small st × (len ≤ 255) ⌝ }
-    ensures { λ r. ⌜ r ≡ record { previous = id; tokens = st .tokens + 1; made = made; used = st .used + len } ⌝ }
+    ensures { λ r. ⌜ ((ts : List Token) (t : Token) → Counts ts st → t .id ≡ id → length (t .bytes) ≡ len
+        → made ≡ nodeCount (ts ++ (t ∷ [])) → Counts (ts ++ (t ∷ [])) r) ⌝ }
 {
     Build {
         previous: id,
@@ -273,10 +279,10 @@ pub enum Missing {
     Nothing,
 }
 
-// The lowest byte whose cell of `single` holds no id.
+// The lowest byte without a one-byte token.
 fn missing_byte(single: &[i32]) -> Missing
     requires { ⌜ 256 ≤ length (now single) ⌝ }
-    ensures { λ r. ⌜ missingOf r ≡ missingOn (now (single .entry)) 256 0 ⌝ }
+    ensures { λ r. ⌜ ((ts : List Token) → SingleOf ts (now (single .entry)) → missingOf r ≡ missing ts 256 0) ⌝ }
 {
     let mut b: usize = 0;
     while b < 256 {
@@ -291,7 +297,7 @@ fn missing_byte(single: &[i32]) -> Missing
 // The byte that full mode lacks; partial mode asks for none.
 fn demanded_byte(partial: bool, single: &[i32]) -> Missing
     requires { ⌜ 256 ≤ length (now single) ⌝ }
-    ensures { λ r. ⌜ missingOf r ≡ demanded partial (missingOn (now (single .entry)) 256 0) ⌝ }
+    ensures { λ r. ⌜ ((ts : List Token) → SingleOf ts (now (single .entry)) → missingOf r ≡ demanded partial (missing ts 256 0)) ⌝ }
 {
     if partial {
         return Missing::Nothing;
@@ -329,7 +335,8 @@ fn stop_of(partial: bool, single: &[i32], st: Build) -> Stop
     ensures stops { λ r. ⌜ ((most : Room) (ts : List Token) (os bl rs : List ℕ) (ns : Nodes) (tb os′ rs′ tb′ : List ℕ)
         → Built ts (now (single .entry)) os bl rs ns st → T (isStop r) → FinishedAs partial most ts (finishedBy r) os rs tb os′ rs′ tb′) ⌝ }
     ensures goes { λ r. ⌜ (T (not (isStop r))
-        → (st .tokens ≡ 0 → ⊥) × (demanded partial (missingOn (now (single .entry)) 256 0) ≡ none)) ⌝ }
+        → (st .tokens ≡ 0 → ⊥)
+        × ((ts : List Token) → SingleOf ts (now (single .entry)) → demanded partial (missing ts 256 0) ≡ none)) ⌝ }
 {
     if st.tokens == 0 {
         return Stop::NoTokens;

@@ -6,7 +6,7 @@ ghost use Rattle.spec.specs.Lists.{each, over};
 ghost use Rattle.spec.specs.Memory.{memory};
 ghost use Rattle.spec.specs.Decode.{lookup as lookupOf, decodeOn, decodeTextOn, decodeLossyOn};
 ghost use Rattle.decoding.specs.Answers.{answerOf, takenOf, Answered};
-ghost use Rattle.decoding.specs.Span.{spanOf};
+ghost use Rattle.decoding.specs.Span.{spanOf, spanBytes};
 ghost use Rattle.decoding.specs.Measured.{tokens, Joined, Measured};
 
 mod copy;
@@ -21,7 +21,8 @@ pub enum Span {
 // "Bytes from offset id to offset id + 1." An id of 65,536 or more has none, nor has a pair that is empty, out of order, past
 // the blob or longer than 255, nor one that does not stand in the offsets.
 pub fn lookup(offsets: &[u32], blob: &[u8], id: u32) -> Span
-    ensures { λ r. ⌜ r ≡ spanOf (now (offsets .entry)) (now (blob .entry)) id ⌝ }
+    ensures span { λ r. ⌜ r ≡ spanOf (now (offsets .entry)) (now (blob .entry)) id ⌝ }
+    ensures means { λ r. ⌜ spanBytes (now (blob .entry)) r ≡ lookupOf (tokens (now (offsets .entry)) (now (blob .entry))) id ⌝ }
 {
     let i = id as usize;
     if i >= 65536 {

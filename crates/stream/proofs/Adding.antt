@@ -20,7 +20,7 @@ use Rattle.stream.specs.declared.Answer.the-variants.{Taken, Stopped}
 use Rattle.stream.specs.declared.Ran.{Ran}
 use Rattle.stream.specs.declared.Ran.the-variants.{Through, Waiting, Stuck}
 use Rattle.stream.specs.Answers.{recordOf, answerOf}
-use Rattle.stream.specs.Running.{prepend, Alike, runFrom, countOf, RunsTo, Hands}
+use Rattle.stream.specs.Running.{reached, prepend, Alike, runFrom, countOf, RunsTo, Hands}
 use Rattle.stream.proofs.Deciding.{long-decided}
 use Rattle.stream.proofs.Windows.{window, window-alike, short-piece}
 
@@ -114,15 +114,15 @@ module _ (m : Memory) (piece : List ℕ) (from count total all at n : ℕ) (befo
 -- a run that waits at a held byte has the whole piece in its window
 waits-whole : (m : Memory) (held piece : List ℕ) (at : ℕ) → at < length held → undecidedOn m (drop at (window held piece)) ≡ true
     → window held piece ≡ held ++ piece
-waits-whole m held piece at h u = go (leb (length piece) 254) refl
+waits-whole m held piece at h u = go (leb (length piece) reached) refl
   where
-    go : (c : Bool) → leb (length piece) 254 ≡ c → window held piece ≡ held ++ piece
-    go true p = short-piece m held piece (leb-true (length piece) 254 p)
+    go : (c : Bool) → leb (length piece) reached ≡ c → window held piece ≡ held ++ piece
+    go true p = short-piece m held piece (leb-true (length piece) reached p)
     go false p =
-        let l = leb-false (length piece) 254 p in
-        let a = length-append held (take 254 piece) in
+        let l = leb-false (length piece) reached p in
+        let a = length-append held (take reached piece) in
         let d = length-drop at (window held piece) in
-        let k = length-take-le 254 piece (omega arith) in
+        let k = length-take-le reached piece (omega arith) in
         absurd (true≢false (sym u ∙ long-decided m (drop at (window held piece)) (omega arith)))
 
 module _ (m : Memory) (held piece : List ℕ) (pos total all at n : ℕ) (lent out : List ℕ) (r : Called) where

@@ -6,6 +6,7 @@ use native.Mathlib.Omega.{arith}
 use lib.ListN.{length, take, drop, replicate, length-drop}
 use lib.Seq.{paste, take-all, take-length, take-nil, take-paste, length-paste}
 use Rattle.spec.specs.Memory.{padded}
+use Rattle.stream.specs.Running.{reached}
 
 -- a list as a record's array holds it
 pub length-as : (l : List ℕ) → length (map (λ (x : ℕ). x) l) ≡ length l
@@ -31,15 +32,15 @@ take-min (suc n) (x ∷ l) = let e : min (suc n) (suc (length l)) ≡ suc (min n
     ap (λ (k : ℕ). take k (x ∷ l)) e ∙ ap (λ (t : List ℕ). x ∷ t) (take-min n l)
 
 -- held bytes copied to the start, and bytes of the piece behind them
-pub joined : (held piece w : List ℕ) (n k : ℕ) → n ≡ length held → k ≤ length piece → k ≡ min 254 (length piece) → n + k ≤ length w
-    → take (n + k) (paste (paste w 0 held n) n piece k) ≡ held ++ take 254 piece
+pub joined : (held piece w : List ℕ) (n k : ℕ) → n ≡ length held → k ≤ length piece → k ≡ min reached (length piece) → n + k ≤ length w
+    → take (n + k) (paste (paste w 0 held n) n piece k) ≡ held ++ take reached piece
 joined held piece w n k p q s h =
     let e : 0 + n ≡ n = omega arith in
     let l = length-paste w 0 held n (omega arith) (omega arith) in
     take-paste (paste w 0 held n) n piece k (omega arith) q
     ∙ ap₂ (λ (x y : List ℕ). x ++ y)
     (ap (λ (j : ℕ). take j (paste w 0 held n)) (sym e) ∙ take-paste w 0 held n (omega arith) (omega arith) ∙ take-all n held (omega arith))
-    (ap (λ (j : ℕ). take j piece) s ∙ take-min 254 piece)
+    (ap (λ (j : ℕ). take j piece) s ∙ take-min reached piece)
 
 -- a part of a slice to its end, and a part of its beginning
 pub part-end : (s : List ℕ) (at : ℕ) → take (length s - at) (drop at s) ≡ drop at s

@@ -12,7 +12,7 @@ use lib.Seq.{take-take, take-all, drop-append-le, length-take-le}
 use borrow.Author.Tests.{leb-true, leb-false}
 use Rattle.spec.specs.Memory.{Memory}
 use Rattle.spec.specs.Match.{Walk, enter, walkOn, Match, found, one, matchOn}
-use Rattle.stream.specs.Running.{Alike}
+use Rattle.stream.specs.Running.{reached, Alike}
 use Rattle.stream.proofs.Deciding.{long-decided}
 
 -- ── A walk sees 255 bytes ────────────────────────────────────────────
@@ -43,35 +43,35 @@ take-tail (suc n) k [] ys h = take-take (suc n) k ys (omega arith)
 take-tail (suc n) k (x ∷ xs) ys h = ap (λ (l : List ℕ). x ∷ l) (take-tail n k xs ys (omega arith))
 
 abbrev pub window : List ℕ → List ℕ → List ℕ
-window held piece = held ++ take 254 piece
+window held piece = held ++ take reached piece
 
 module _ (m : Memory) (held piece : List ℕ) where
-  pub short-piece : length piece ≤ 254 → window held piece ≡ held ++ piece
-  short-piece h = ap (λ (l : List ℕ). held ++ l) (take-all 254 piece h)
+  pub short-piece : length piece ≤ reached → window held piece ≡ held ++ piece
+  short-piece h = ap (λ (l : List ℕ). held ++ l) (take-all reached piece h)
 
   pub window-alike : Alike m (window held piece) (held ++ piece) (length held)
-  window-alike = go (leb (length piece) 254) refl
+  window-alike = go (leb (length piece) reached) refl
     where
-      go : (c : Bool) → leb (length piece) 254 ≡ c → Alike m (window held piece) (held ++ piece) (length held)
+      go : (c : Bool) → leb (length piece) reached ≡ c → Alike m (window held piece) (held ++ piece) (length held)
       go true e =
-          let w = short-piece (leb-true (length piece) 254 e) in
+          let w = short-piece (leb-true (length piece) reached e) in
           subst (λ (l : List ℕ). Alike m l (held ++ piece) (length held)) (sym w)
           (record { long = omega arith; undecided = λ i h. refl; matched = λ i h. refl; byte = λ i h. refl })
       go false e =
-          let h = leb-false (length piece) 254 e in
-          let a = length-append held (take 254 piece) in
+          let h = leb-false (length piece) reached e in
+          let a = length-append held (take reached piece) in
           let b = length-append held piece in
-          let c = length-take-le 254 piece (omega arith) in
+          let c = length-take-le reached piece (omega arith) in
           record {
             long = omega arith;
-            undecided = λ i k. let d = length-drop i (held ++ piece) in let f = length-drop i (held ++ take 254 piece) in
+            undecided = λ i k. let d = length-drop i (held ++ piece) in let f = length-drop i (held ++ take reached piece) in
                 long-decided m (drop i (held ++ piece)) (omega arith)
-                ∙ sym (long-decided m (drop i (held ++ take 254 piece)) (omega arith));
+                ∙ sym (long-decided m (drop i (held ++ take reached piece)) (omega arith));
             matched = λ i k. let d = length-drop i held in
                 sym (match-cut m 255 (drop i (held ++ piece)) (omega arith))
                 ∙ ap (matchOn m) (ap (take 255) (drop-append-le i held piece (omega arith))
-                ∙ sym (take-tail 255 254 (drop i held) piece (omega arith))
-                ∙ ap (take 255) (sym (drop-append-le i held (take 254 piece) (omega arith))))
-                ∙ match-cut m 255 (drop i (held ++ take 254 piece)) (omega arith);
-            byte = λ i k. List·getD-append held piece 0 i k ∙ sym (List·getD-append held (take 254 piece) 0 i k);
+                ∙ sym (take-tail 255 reached (drop i held) piece (omega arith))
+                ∙ ap (take 255) (sym (drop-append-le i held (take reached piece) (omega arith))))
+                ∙ match-cut m 255 (drop i (held ++ take reached piece)) (omega arith);
+            byte = λ i k. List·getD-append held piece 0 i k ∙ sym (List·getD-append held (take reached piece) 0 i k);
           }

@@ -1,4 +1,4 @@
--- A run over a stretch of the input, and what a call hands back after it: what the contracts of `run`, `on_piece` and `take_piece` cite.
+-- A run over a stretch of the input, and what a call hands back after it: what the contracts of `run`, `take_rest` and `take_piece` cite.
 -- Assumes nothing.
 use mathlib.Core.Path.{_≡_}
 use mathlib.Core.Bool.{true}
@@ -14,6 +14,12 @@ use Rattle.stream.specs.declared.Called.{Called}
 use Rattle.stream.specs.declared.Ran.{Ran}
 use Rattle.stream.specs.declared.Ran.the-variants.{Through, Waiting, Stuck}
 use Rattle.stream.specs.Answers.{recordOf, answerOf}
+
+-- ── The window ───────────────────────────────────────────────────────
+
+-- how many bytes past the held ones a match from a held byte can read: "a stop at 255 bytes"
+abbrev pub reached : ℕ
+reached = 254
 
 -- ── What a run comes to ──────────────────────────────────────────────
 

@@ -13,7 +13,7 @@ ghost use Rattle.spec.specs.Memory.{memory, padded};
 ghost use Rattle.spec.specs.Match.{undecidedOn};
 ghost use Rattle.spec.specs.Stream as spec;
 ghost use Rattle.stream.specs.Answers.{recordOf, refusalOf, Answered};
-ghost use Rattle.stream.specs.Running.{RunsTo, runFrom, Hands};
+ghost use Rattle.stream.specs.Running.{reached, RunsTo, runFrom, Hands};
 
 // Phases of a stream; any other number counts as ended.
 pub const OPEN: u8 = 0;
@@ -241,7 +241,7 @@ fn run(
 
 // As many bytes of a piece as a token that starts in the held bytes can reach.
 fn reach(len: usize) -> usize
-    ensures { λ r. ⌜ r ≡ min 254 len ⌝ }
+    ensures { λ r. ⌜ r ≡ min reached len ⌝ }
 {
     if len < 254 { len } else { 254 }
 }
@@ -249,7 +249,7 @@ fn reach(len: usize) -> usize
 // The held bytes and those of the piece within reach, as one run; how many they are.
 fn join(held: &[u8], piece: &[u8], window: &mut [u8]) -> usize
     requires { ⌜ (length (now held) ≤ 254) × (508 ≤ length (now window)) ⌝ }
-    ensures { λ r. ⌜ (r ≤ 508) × (take r (now (window .exit)) ≡ now (held .entry) ++ take 254 (now (piece .entry))) ⌝ }
+    ensures { λ r. ⌜ (r ≤ 508) × (take r (now (window .exit)) ≡ now (held .entry) ++ take reached (now (piece .entry))) ⌝ }
 {
     let n = held.len();
     let more = reach(piece.len());

@@ -98,7 +98,19 @@ begunAs st = record { build = st; takes = false; id = 0; len = 0; at = 0; lines 
 abbrev pub stoppedAs : Taking → ℕ → Taking
 stoppedAs t n = record { build = t .build; takes = false; id = t .id; len = t .len; at = t .at; lines = t .lines; number = n }
 
--- one line more was read: the token that it states is to be taken, or its number ends the taking
+-- one line more was read, and the next one starts at `next`
+abbrev pub pastAs : Taking → ℕ → Taking
+pastAs t next = record {
+  build = t .build;
+  takes = false;
+  id = t .id;
+  len = t .len;
+  at = next;
+  lines = t .lines + 1;
+  number = 0;
+}
+
+-- and so the token that it states is to be taken, or its number ends the taking
 abbrev pub lineAs : Taking → ℕ → Read → Taking
 lineAs t next (Read.Found id n) = record {
   build = t .build;
@@ -106,18 +118,10 @@ lineAs t next (Read.Found id n) = record {
   id = id;
   len = n;
   at = next;
-  lines = t .lines + 1;
+  lines = pastAs t next .lines;
   number = 0;
 }
-lineAs t next (Read.Refused n) = record {
-  build = t .build;
-  takes = false;
-  id = t .id;
-  len = t .len;
-  at = next;
-  lines = t .lines + 1;
-  number = n;
-}
+lineAs t next (Read.Refused n) = stoppedAs (pastAs t next) n
 
 -- the token was taken, or its number ends the taking
 abbrev pub pushedAs : Taking → Pushed → Taking

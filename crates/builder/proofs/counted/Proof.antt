@@ -1,8 +1,8 @@
 -- `builder::counted` meets its contract. Assumes nothing.
 use borrow.Author.Needs.{needs}
-use mathlib.Core.Path.{ap}
+use mathlib.Core.Path.{refl, sym, ap, _∙_}
 use Prim.Native.Nat.{ℕ, _+_}
-use Rattle.builder.specs.declared.Build.{Build}
+use Rattle.builder.specs.Grow.{counts-more}
 use Rattle.builder.proofs.counted.Statement.{statement}
 use Rattle.builder.proofs.counted.Tie as tie
 
@@ -17,9 +17,8 @@ add-t7 c = search needs
 
 returns : tie.Need-returns
 returns c =
-    let a = c .before .before .before .args in
-    ap {B = Build} (λ (n : ℕ). record { previous = a .id; tokens = a .st .tokens + 1; made = a .made; used = a .st .used + n })
-    (c .before .narrow .ensures)
+    let n = c .before .narrow .ensures in
+    λ ts t C i k m. counts-more ts t C _ (sym i) refl m (ap (λ (x : ℕ). c .before .before .before .args .st .used + x) (n ∙ sym k))
 
 pub counted-spec : {M : Type 1} → statement M
 counted-spec = tie.close (tie.spec add-t5 narrow-requires add-t7 returns)

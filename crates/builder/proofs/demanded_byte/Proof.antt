@@ -2,20 +2,18 @@
 use borrow.Author.Needs.{needs}
 use mathlib.Core.Path.{sym, ap, _∙_}
 use mathlib.Core.Bool.{Bool}
-use Rattle.spec.specs.Load.{demanded}
-use Rattle.builder.specs.Built.{missingOn}
+use Rattle.spec.specs.Load.{missing, demanded}
 use Rattle.builder.proofs.demanded_byte.Statement.{statement}
 use Rattle.builder.proofs.demanded_byte.Tie as tie
 
 returns : tie.Need-returns
-returns c = search needs
+returns c = λ ts S. ap (λ (p : Bool). demanded p (missing ts 256 0)) (sym (c .if1 .taken))
 
 missing-byte-requires : tie.Need-missing-byte-requires
 missing-byte-requires c κs = search needs
 
 returns-2 : tie.Need-returns-2
-returns-2 c = c .missing-byte .ensures ∙ ap (λ (p : Bool). demanded p (missingOn (c .before .before .args .single .now) 256 0))
-    (sym (c .before .if1 .left))
+returns-2 c = λ ts S. c .missing-byte .ensures ts S ∙ ap (λ (p : Bool). demanded p (missing ts 256 0)) (sym (c .before .if1 .left))
 
 pub demanded-byte-spec : {M : Type 1} → statement M
 demanded-byte-spec = tie.close (tie.spec returns missing-byte-requires returns-2)

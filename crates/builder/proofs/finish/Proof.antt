@@ -15,7 +15,7 @@ use Rattle.packing.proofs.Packed as PackedT
 use Rattle.packing.proofs.pack as pack
 use Rattle.builder.specs.declared.Finished.{Finished}
 use Rattle.builder.specs.Built.{FinishedAs}
-use Rattle.builder.specs.Finish.{finished-as, capacity-room, end-kept}
+use Rattle.builder.specs.Finish.{single-of, finished-as, capacity-room, end-kept}
 use Rattle.builder.proofs.Build as BuildT
 use Rattle.builder.proofs.Stop as StopT
 use Rattle.builder.proofs.Finished as FinishedT
@@ -143,7 +143,7 @@ module _ {M : Type 1} (𝓤 : URA M) (H : Heap 𝓤) (A : Atoms 𝓤) (W : Given
         by ! (ends-with 𝓤 H A W ps pl κs qs a vss FinishedT.the-row (finished 𝓤 H A W) Ens u′ r is″
         (lists (os .0) (zs .1 .1 .0) (zs .1 .1 .1 .0) (zs .0) (zs .1 .1 .1 .1 .0) (zs .1 .1 .1 .1 .1 .0))
         (lo .0, (l .1 .0, (l .1 .1 .0, (l .0, l .1 .1 .1)))) (said2 𝓤 H A
-        (λ blob most ts em B. finished-as partial most B (table .now) (os .0) (zs .1 .1 .0) (zs .1 .1 .1 .0) (goes .0) (goes .1) _
+        (λ blob most ts em B. finished-as partial most B (table .now) (os .0) (zs .1 .1 .0) (zs .1 .1 .1 .0) (goes .0) (goes .1 ts (single-of B)) _
         (em ∙ capacity-room _ _ _) packed (ep .0 ts (B .valid) (B .stands) (B .made)) (pre .0 .offsets) (owed .0 .1) eo r er)
         (end-kept (st .previous) (st .used) (owed .0 .1) eo (ep .1 .behind)))))))))))
 

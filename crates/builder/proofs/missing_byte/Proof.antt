@@ -1,7 +1,8 @@
--- `builder::missing_byte` meets its contract. The loop's invariant: the lowest byte without an id from b on is the lowest of all. The
+-- `builder::missing_byte` meets its contract. The loop's invariant: the lowest byte without a token from b on is the lowest of all. The
 -- measure is how many bytes are left. Assumes nothing.
 use borrow.Author.Needs.{needs}
 use mathlib.Core.Path.{_≡_, refl, sym, ap, _∙_}
+use mathlib.Core.List.{List}
 use Prim.Native.Nat.{_-_, _≤_}
 use native.Mathlib.Omega.{arith}
 use lib.IntN.{pos}
@@ -10,19 +11,21 @@ use mir.Syntax.{w32}
 use mir.Facts.{toZ-ofZ}
 use borrow.Author.Needs.{sfits-of}
 use borrow.Author.Tests.{not-true, not-false}
-use Rattle.builder.specs.Built.{isTaken, missingOn}
-use Rattle.builder.proofs.Stores.{missing-here, missing-next, missing-end}
+use Rattle.spec.specs.Token.{Token}
+use Rattle.spec.specs.Load.{missing}
+use Rattle.builder.specs.Built.{SingleOf, isTaken}
+use Rattle.builder.specs.Finish.{missing-here, missing-next, missing-end}
 use Rattle.builder.proofs.missing_byte.Statement.{statement}
 use Rattle.builder.proofs.missing_byte.Tie as tie
 
 abbrev Inv-loop : tie.InvT-loop
-Inv-loop single b₀ b = (b ≤ 256) × (missingOn single (256 - b) b ≡ missingOn single 256 0)
+Inv-loop single b₀ b = (b ≤ 256) × ((ts : List Token) → SingleOf ts single → missing ts (256 - b) b ≡ missing ts 256 0)
 
 abbrev μ-loop : tie.MeasureT-loop
 μ-loop single b₀ b = 256 - b
 
 loop-holds : tie.Need-loop-holds Inv-loop μ-loop
-loop-holds c = (omega arith, refl)
+loop-holds c = (omega arith, λ ts S. refl)
 
 mul-taken : tie.Need-mul-taken Inv-loop μ-loop
 mul-taken c = omega arith
@@ -37,11 +40,11 @@ cast-t8 : tie.Need-cast-t8 Inv-loop μ-loop
 cast-t8 c = omega arith
 
 returns : tie.Need-returns Inv-loop μ-loop
-returns c = missing-here _ _ (c .before .before .before .loop-test .taken)
+returns c = λ ts S. missing-here ts _ S _ (c .before .before .before .loop-test .taken)
     (sym (c .before .taken .ensures
     ∙ ap isTaken (toZ-ofZ {w = w32} {z = getD (c .before .before .before .before .before .args .single .now)
     (c .before .before .before .before .loop .b) (pos 0)} (sfits-of (c .before .before .taken-arg .given)))) ∙ not-true _ (c .if1 .taken))
-    ∙ c .before .before .before .before .loop .inv .1
+    ∙ c .before .before .before .before .loop .inv .1 ts S
 
 add-b : tie.Need-add-b Inv-loop μ-loop
 add-b c = omega arith
@@ -52,15 +55,15 @@ loop-less c = omega arith
 loop-again : tie.Need-loop-again Inv-loop μ-loop
 loop-again c = (
   omega arith,
-  missing-next _ _ (c .before .before .before .loop-test .taken)
+  λ ts S. missing-next ts _ S _ (c .before .before .before .loop-test .taken)
       (sym (c .before .taken .ensures
       ∙ ap isTaken (toZ-ofZ {w = w32} {z = getD (c .before .before .before .before .before .args .single .now)
       (c .before .before .before .before .loop .b) (pos 0)} (sfits-of (c .before .before .taken-arg .given)))) ∙ not-false _ (c .if1 .left))
-      ∙ c .before .before .before .before .loop .inv .1,
+      ∙ c .before .before .before .before .loop .inv .1 ts S,
 )
 
 returns-2 : tie.Need-returns-2 Inv-loop μ-loop
-returns-2 c = missing-end _ _ (c .loop-test .left) ∙ c .before .loop .inv .1
+returns-2 c = λ ts S. missing-end ts _ (c .loop-test .left) ∙ c .before .loop .inv .1 ts S
 
 pub missing-byte-spec : {M : Type 1} → statement M
 missing-byte-spec =

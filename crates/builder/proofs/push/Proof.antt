@@ -103,7 +103,7 @@ module _ {M : Type 1} (𝓤 : URA M) (H : Heap 𝓤) (A : Atoms 𝓤) (W : Given
         let p₁ = value u32 ∷ value u32 ∷ [] in
         let t₁ : Bind p₁ = (tt, tt, tt, (most, (st .made, tt)), (v ∷ [], (v-made, tt))) in
         calls-of ! 𝓣 [] p₁ t₁ (number .makes most _ is-m, (made-made, tt)) bool (λ z. k₁ (at p₁ t₁ z, tt)) (λ z. id⊢ 𝓤 _)
-        (λ z r ws. id⊢ 𝓤 _) refl (and-then ! (var ! 10 refl) (and-then ! (part ! 6 2 refl refl refl) (no-more !)))
+        (λ z r ws. told2 𝓤 H A) refl (and-then ! (var ! 10 refl) (and-then ! (part ! 6 2 refl refl refl) (no-more !)))
         (λ v′ full _ _ is-full ef.
         takes ! 14 refl (bool-plain 𝓤 H A W .lawful .typed full _ is-full .0) $
         respell ! 14 refl (ap only is-full) $ checks ! (var ! 14 refl) (λ yes.
@@ -113,9 +113,10 @@ module _ {M : Type 1} (𝓤 : URA M) (H : Heap 𝓤) (A : Atoms 𝓤) (W : Given
         returns-within ! (After 𝓤 H A W ps κs qs a PushedT.the-row Ens) refl (look ! 0 refl) $ leaves ! refl refl $
         by ! (ends-with 𝓤 H A W ps pl κs qs a vss PushedT.the-row (pushed 𝓤 H A W) Ens w r is
         (lists (single .now) (offsets .now) (blob .now) (roots .now) (nodes .now)) (refl, (refl, (refl, (refl, (refl, tt))))) (said2 𝓤 H A
-        (λ table ts B. pushed-none B _ table r er (subst (λ (x : ℕ). x < st .made) em (ltb→lt most (st .made) (subst Holds ef yes))))
+        (λ table ts B. pushed-none ts _ (single .now) (offsets .now) (blob .now) (roots .now) (nodes .now) table r er
+        (ef .0 yes table ts _ _ _ _ _ _ _ B em refl))
         (record { single = refl; offsets = refl; roots = refl })))))
-        (λ no. let fits = nltb→le most (st .made) (subst (λ (y : Bool). Holds (not y)) ef no) in
+        (λ no. let fits = ef .1 no in
         -- if n == 1 {
         sets ! 15 (bin ! (var ! 9 refl) (lit ! tt) tt) refl (tt, tt) $
         checks ! (var ! 15 refl) (λ one.

@@ -6,15 +6,9 @@ use native.Mathlib.Omega.{arith}
 use lib.ListN.{length, take}
 use lib.Seq.{length-take-le}
 use Rattle.trie.specs.Chains.{known-taken, bytes-taken}
-use Rattle.builder.specs.declared.Build.{Build}
 use Rattle.builder.specs.Grow.{reads-of, pushed-twice, pushed-full, pushed-short, pushed-taken, all-kept}
 use Rattle.builder.proofs.push_entered.Statement.{statement}
 use Rattle.builder.proofs.push_entered.Tie as tie
-
--- the same bytes counted another way
-recounted : {r : Build} {p t m : ℕ} (u a b : ℕ) → r ≡ record { previous = p; tokens = t; made = m; used = u + a } → b ≡ a
-    → r ≡ record { previous = p; tokens = t; made = m; used = u + b }
-recounted {r} {p} {t} {m} u a b e k = e ∙ ap (λ (x : ℕ). record { previous = p; tokens = t; made = m; used = u + x }) (sym k)
 
 enum-told : tie.Need-enum-told
 enum-told c = search needs
@@ -131,7 +125,7 @@ returns-4 c =
           .given .1) (p .0) (p .1)
           (let t = c .before .before .before .before .before .before .before .before .before .before .before .if1 .left in omega
           (arith, t)) same _ (e .0) _ (e .1 .0) _ (e .1 .1) _
-          (recounted (a .st .used) (a .n) (length (take (a .n) (a .bytes .now))) (c .counted .ensures) len)),
+          (λ ts′ u C i k. c .counted .ensures ts′ u C i (k ∙ len))),
       λ rs rs′ k. all-kept (take (a .n) (a .bytes .now)) (a .st .previous) (a .id) (a .st .used)
           (known-taken (a .n) (a .bytes .now) (λ j. (known j) .fits) 0) (p .5) small (e .0) (e .1 .0) (k .behind),
     )

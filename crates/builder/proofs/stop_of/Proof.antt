@@ -2,7 +2,7 @@
 use borrow.Author.Needs.{needs}
 use mathlib.Core.Path.{sym, ap, _∙_}
 use Rattle.builder.specs.Built.{missingOf}
-use Rattle.builder.specs.Finish.{finished-none, finished-wanting}
+use Rattle.builder.specs.Finish.{single-of, finished-none, finished-wanting}
 use Rattle.builder.proofs.stop_of.Statement.{statement}
 use Rattle.builder.proofs.stop_of.Tie as tie
 
@@ -21,14 +21,14 @@ enum-told c = search needs
 returns-2 : tie.Need-returns-2
 returns-2 c = (
   (λ most ts os bl rs ns tb os′ rs′ tb′ B y. finished-wanting _ most B tb os′ rs′ tb′ (c .before .before .before .before .if1 .left) _
-      (c .before .before .before .demanded-byte .ensures) _ (c .before .b .given .1)),
+      (c .before .before .before .demanded-byte .ensures ts (single-of B)) _ (c .before .b .given .1)),
   λ n. absurd n,
 )
 
 returns-3 : tie.Need-returns-3
 returns-3 c = (
   (λ most ts os bl rs ns tb os′ rs′ tb′ B y. absurd y),
-  λ n. (c .before .before .before .if1 .left, sym (c .before .before .demanded-byte .ensures) ∙ ap missingOf (c .enum-told .given .1)),
+  λ n. (c .before .before .before .if1 .left, λ ts S. sym (c .before .before .demanded-byte .ensures ts S) ∙ ap missingOf (c .enum-told .given .1)),
 )
 
 pub stop-of-spec : {M : Type 1} → statement M

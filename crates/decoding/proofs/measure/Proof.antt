@@ -41,7 +41,7 @@ returns c =
     let l = c .before .before .before .before .before .loop in
     let m = tokens (a .offsets .now) (a .blob .now) in
     ends-absent m (a .room) (a .ids .now) (l .index) (l .len) (l .inv) (c .before .before .before .before .loop-test .taken)
-    (span-absent m (getD (a .ids .now) (l .index) 0) (sym (c .before .before .lookup .ensures) ∙ c .enum-told .given .1))
+    (span-absent m (getD (a .ids .now) (l .index) 0) (sym (c .before .before .lookup .ensures .0) ∙ c .enum-told .given .1))
 
 sub-if1 : tie.Need-sub-if1 Inv-loop μ-loop
 sub-if1 c = c .before .before .before .before .before .before .loop .inv .fits
@@ -52,7 +52,7 @@ returns-2 c =
     let l = c .before .before .before .before .before .before .before .loop in
     let m = tokens (a .offsets .now) (a .blob .now) in
     let i = getD (a .ids .now) (l .index) 0 in
-    let e = sym (c .before .before .before .before .lookup .ensures) ∙ c .before .before .more .given .1 in
+    let e = sym (c .before .before .before .before .lookup .ensures .0) ∙ c .before .before .more .given .1 in
     let size = span-size m i _ _ e in
     let some = has-span (a .offsets .now) (a .blob .now) i _ _ e .some in
     ends-full m (a .room) (a .ids .now) (l .index) (l .len) (l .inv) (c .before .before .before .before .before .before .loop-test .taken)
@@ -73,7 +73,7 @@ loop-again c =
     let l = c .before .before .before .before .before .before .before .loop in
     let m = tokens (a .offsets .now) (a .blob .now) in
     let i = getD (a .ids .now) (l .index) 0 in
-    let e = sym (c .before .before .before .before .lookup .ensures) ∙ c .before .before .more .given .1 in
+    let e = sym (c .before .before .before .before .lookup .ensures .0) ∙ c .before .before .more .given .1 in
     let size = span-size m i _ _ e in
     let some = has-span (a .offsets .now) (a .blob .now) i _ _ e .some in
     rw (← size)

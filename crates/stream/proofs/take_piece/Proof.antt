@@ -13,7 +13,7 @@ use Rattle.spec.specs.Stream.{holding, stoppedAt}
 use Rattle.stream.specs.declared.Ran.{Ran}
 use Rattle.stream.specs.declared.Ran.the-variants.{Through, Waiting, Stuck}
 use Rattle.stream.specs.declared.Answer.the-variants.{Stopped}
-use Rattle.stream.specs.Running.{RunsTo}
+use Rattle.stream.specs.Running.{reached, RunsTo}
 use Rattle.stream.proofs.Holding.{part-within}
 use Rattle.stream.proofs.Windows.{window}
 use Rattle.stream.proofs.Adding.{waits-few, held-waiting, held-stuck, held-through}
@@ -35,8 +35,8 @@ joined c =
     let a = c .before .before .before .before .before .before .before .args in
     let n = many c in
     let l = ap length (c .join .ensures .1) in
-    let k = length-append (now (a .held)) (take 254 (now (a .piece))) in
-    let t = length-take 254 (now (a .piece)) in
+    let k = length-append (now (a .held)) (take reached (now (a .piece))) in
+    let t = length-take reached (now (a .piece)) in
     (omega arith, omega arith)
 
 -- the held bytes and those of the piece within reach
@@ -132,8 +132,8 @@ take-rest-requires c κs =
     let a = c .before .before .before .before .before .before .before .before .before .before .before .before .before .before .before
     .before .before .args in
     let w = through (c .before .before) [] [] in
-    let l = length-append (now (a .held)) (take 254 (now (a .piece))) in
-    let t = length-take 254 (now (a .piece)) in
+    let l = length-append (now (a .held)) (take reached (now (a .piece))) in
+    let t = length-take reached (now (a .piece)) in
     let p = c .before .before .before .before .before .before .before .before .before .before .before .before .before .before .before
     .before .before .pre in
     let o = c .before .before .before .before .before .before .run .kept .1 .1 .1 .1 .1 .1 .0 in

@@ -44,7 +44,7 @@ returns c =
     record {
       within = l .inv .0;
       present = l .inv .1;
-      absent = λ _. span-absent m (getD (a .ids .now) (l .index) 0) (sym (c .before .before .lookup .ensures) ∙ c .enum-told2 .given .1);
+      absent = λ _. span-absent m (getD (a .ids .now) (l .index) 0) (sym (c .before .before .lookup .ensures .0) ∙ c .enum-told2 .given .1);
     }
 
 add-index : tie.Need-add-index Inv-loop μ-loop
@@ -59,7 +59,7 @@ loop-again c =
     let l = c .before .before .before .before .before .loop in
     let m = tokens (a .offsets .now) (a .blob .now) in
     let i = getD (a .ids .now) (l .index) 0 in
-    let e = sym (c .before .before .lookup .ensures) ∙ c .enum-told .given .1 in
+    let e = sym (c .before .before .lookup .ensures .0) ∙ c .enum-told .given .1 in
     let size = span-size m i _ _ e in
     let some = has-span (a .offsets .now) (a .blob .now) i _ _ e .some in
     (omega arith, below-more _ _ (l .inv .1) (omega arith))
