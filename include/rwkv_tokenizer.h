@@ -1,10 +1,10 @@
 /* The calls of librwkv_tokenizer.a, a tokenizer for RWKV models that is proved to meet its contracts.
  *
  * All memory is lent by the caller. A slice goes as a pointer, never null, and a length in cells; the calls touch no cell past
- * it. What a call writes must not overlap anything else that it is given. The result is the number of the refusal, 0 if there
- * is none. A report takes what the number carries; whatever a call does not carry is 0 in it.
+ * it. What a call writes must not overlap anything else that it is given. The result of each but rwkv_fresh is the number of
+ * the refusal, 0 if there is none. A report takes what the number carries; whatever a call does not carry is 0 in it.
  *
- * Every call:
+ * Every call that is given vocabulary memory:
  *    1  a part of the vocabulary memory is too short
  * Loading a text; 2 carries an offset, 3 to 18 a line counted from 1, 20 a byte:
  *    2  the text is not UTF-8
@@ -38,8 +38,11 @@
  *   28  too few cells for the bytes
  *   29  the bytes are not UTF-8
  *
- * After 1 and 2, and 24 to 26, nothing has changed. After 3 to 21 the vocabulary memory is emptied. With 22, 23, 27, 28 and 29
- * the ids or bytes made so far stand from the output's start, their number in the report.
+ * After 1 and 2, 24 to 26 and a repeated 22 nothing has changed but the report. After 3 to 21 the vocabulary memory is emptied:
+ * single all -1, the rest 0. With a new 22, 23, 27, 28 and 29 the ids or bytes made so far stand from the output's start, their
+ * number in the report, and the other cells are as they were. But rwkv_decode_lossy writes nothing with 27 and 28, and the index
+ * of its 28 is the number of ids. A stream that 22 has stopped gives the same offset and byte again at each later call, with no
+ * ids.
  */
 #ifndef RWKV_TOKENIZER_H
 #define RWKV_TOKENIZER_H
@@ -65,7 +68,7 @@ typedef struct {
     uint8_t label;
 } rwkv_node;
 
-/* The vocabulary memory, shared: what every call but rwkv_load is given first. */
+/* The vocabulary memory, shared: what every call but rwkv_load and rwkv_fresh is given first. */
 #define RWKV_MEMORY                                                                                                        \
     const int32_t *single, size_t single_len, const uint32_t *offsets, size_t offsets_len, const uint8_t *blob,           \
         size_t blob_len, const uint64_t *roots, size_t roots_len, const uint64_t *table, size_t table_len

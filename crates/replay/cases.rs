@@ -1,6 +1,6 @@
 //! Writes `stdin`, the cases, and `stdout`, the answers. Numbers, places, ids, bytes and tables are what the original Rust crate
-//! gives; where it has no refusal (1, 17, 18, 21, 23, 28) document 01's table gives the number. Nothing here is taken from the
-//! library. `main.rt` says what a case is. Run in `rust/`, with RWKV_ORIGINAL naming the original's folder:
+//! gives; where it has no refusal (1, 17, 18, 21, 23, 28) document 01's table gives the number, and 2 is the standard library's
+//! `from_utf8`. Nothing here is taken from the library. `main.rt` says what a case is. Run in `rust/`, with RWKV_ORIGINAL naming the original's folder:
 //!
 //!     cargo run --release --bin replay_cases
 

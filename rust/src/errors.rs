@@ -1,4 +1,4 @@
-//! What can go wrong, in the original's types where it has them; each tells the number of document 01.
+//! What can go wrong, in the original's types where it has them; each but `VocabError::Io` tells the number of document 01.
 use std::fmt;
 use std::path::PathBuf;
 
@@ -176,7 +176,8 @@ impl std::error::Error for DecodeError {
 #[derive(Debug, Clone, PartialEq, Eq)]
 #[non_exhaustive]
 pub enum StreamError {
-    /// No token matches, whatever bytes follow; the stream has stopped, and every later call says so again: number 22.
+    /// No token matches: at an add whatever bytes may follow, at an end with none to come. The stream has stopped, and every later
+    /// call says so again: number 22.
     NoToken(EncodeError),
     /// More bytes than a stream can count; the call changed nothing: number 25.
     TooLong,

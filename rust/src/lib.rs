@@ -1,7 +1,8 @@
 //! A tokenizer for RWKV models over a library whose every function is proved to meet its contract.
 //!
-//! The names are those of the crate that it was ported from, so that whoever uses that one changes the `use` line. This layer
-//! owns the memory that the library is lent, and turns its numbers into errors. It adds streams, which encode text as it comes.
+//! The names are those of the crate that it was ported from, so that whoever uses that one changes a line of Cargo.toml;
+//! docs/DIFFERENCES.md lists what is missing. This layer owns the memory that the library is lent, and turns its numbers into
+//! errors. It adds streams, which encode text as it comes.
 //!
 //! ```
 //! use bombrezen::RwkvTokenizer;

@@ -1,5 +1,5 @@
-// Matching and whole encoding, on any vocabulary memory. Each contract is an equation with a definition of `spec`; where a function is not
-// given a part of the memory, the equation holds whatever that part is.
+// Matching and whole encoding, on any vocabulary memory. Each public contract is an equation with a definition of `spec`; where a function
+// is not given a part of the memory, the equation holds whatever that part is.
 ghost use mathlib.Core.Path.{_≡_};
 ghost use mathlib.Core.List.{List, [], _∷_};
 ghost use Prim.Native.Nat.{ℕ, _+_, _*_, _≤_, _<_, min};

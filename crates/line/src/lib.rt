@@ -1,5 +1,5 @@
-// The lines of a text and the fields of a line, up to the refusals that need nothing but the line: 3 to 6 and 11. The id, the literal
-// and the length are parts of the line; whoever reads a line takes them one by one, since refusals 7 to 10 stand between them.
+// The lines of a text and the fields of a line, with refusals 3 to 6 and 11. The id, the literal and the length are parts of the line;
+// whoever reads a line takes them one by one, since refusals 7 to 10 stand between them.
 ghost use mathlib.Core.Path.{_≡_};
 ghost use Prim.Native.Nat.{_+_, _-_, _≤_};
 ghost use lib.ListN.{length, take, drop};

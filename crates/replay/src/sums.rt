@@ -1,4 +1,4 @@
-// A sum over the vocabulary memory that depends on every cell and its place.
+// A sum over offsets, blob, roots and table that depends on every cell and its place.
 use libc::STDOUT_FILENO;
 
 // The sum with one number more.

@@ -1,6 +1,6 @@
 // The running encoder: a stream takes a transmission piece by piece and hands out each id as soon as no later byte can change it.
-// Each contract is an equation with a definition of `spec`, whatever memory and record hold; where a function is not given a part of the
-// memory, the equation holds whatever that part is.
+// Each public contract is an equation with a definition of `spec`, whatever memory and record hold; where a function is not given a part
+// of the memory, the equation holds whatever that part is.
 use encoding::Encoded;
 use encoding::Match;
 ghost use mathlib.Core.Path.{_≡_};

@@ -1,4 +1,5 @@
-//! Other memory: any contents that no load left, where the original does not panic and no match is longer than 255 bytes.
+//! Other memory: any contents that no load left, where the original does not panic and no match and no pair is longer than 255
+//! bytes.
 use super::original::RwkvTokenizer as Original;
 use super::random::Random;
 use super::sides::{decode, encode};
