@@ -2,7 +2,7 @@
 use mathlib.Core.Path.{_≡_, refl, sym, ap, _∙_, subst}
 use mathlib.Core.Bool.{true, false}
 use mathlib.Core.List.{List, map}
-use Prim.Native.Nat.{ℕ, _+_, _-_, _*_, _^_, _≤_, _<_, min}
+use Prim.Native.Nat.{ℕ, _+_, _-_, _*_, _/_, _^_, _≤_, _<_, min}
 use native.Mathlib.Omega.{arith}
 use lib.ListN.{length, take, drop, replicate, length-map}
 use lib.Seq.{drop-at, length-take-le}
@@ -11,6 +11,7 @@ use Rattle.spec.specs.Lists.{fold}
 use Rattle.spec.specs.Token.{Token, idOf}
 use Rattle.spec.specs.Trie.{nodes, nodeCount}
 use Rattle.spec.specs.Layout.{top, words, puts, tableWords}
+use Rattle.spec.specs.Load.{tableRoom}
 use Rattle.spec.specs.Valid.{Valid}
 use Rattle.laws.specs.Bounds.{tableWords-small}
 use Rattle.laws.specs.Fill.{write}
@@ -18,7 +19,7 @@ use Rattle.trie.specs.Run.{Nodes, see}
 use Rattle.trie.specs.Stands.{RootsKept, Stands}
 use Rattle.packing.specs.Search.{Bounds}
 use Rattle.packing.proofs.Steps.{yes-case, no-case}
-use Rattle.packing.specs.Nodes.{blocks, nodeWrites, rootWord, rootWords}
+use Rattle.packing.specs.Nodes.{nodeWrites, rootWord, rootWords}
 use Rattle.packing.proofs.Filled.{Based, nodes-are, table-padded, roots-over}
 use Rattle.packing.specs.Walk.{Through, Ended}
 use Rattle.packing.specs.Answer.{capacity, answerFor, PackedAs}
@@ -29,20 +30,28 @@ use Rattle.packing.specs.declared.Front.{Front}
 
 -- ---- the words of marks that are searched
 
-module _ (t u b end : ℕ) (is : end ≡ 4 * min (blocks t u b) 16777215) where
+in-fours : (x y e : ℕ) → e * 64 ≡ min (256 * x) (256 * y) → e ≡ 4 * min x y
+in-fours x y e h = omega arith
+
+whole-blocks : (t u b end : ℕ) → end ≡ 4 * min (min (t / 256) (min (u / 4) (b / 4))) 16777215 → (U B : List ℕ) → length U ≡ u → length B ≡ b
+    → (end ≡ 0 → ⊥) → Bounds U B 4 end
+whole-blocks t u b end is U B eu eb z = record {
+  from-le = omega (arith, z);
+  blocks = omega arith;
+  some = omega (arith, z);
+  in-used = omega arith;
+  in-bases = omega arith;
+  small = omega arith;
+}
+
+module _ (t u b end : ℕ) (is : end * 64 ≡ min (tableRoom t u b) (256 * 16777215)) where
   end-zero : end ≡ 0 → capacity t u b ≡ 0
   unfolding capacity
   end-zero z = omega arith
 
   pub end-bounds : (U B : List ℕ) → length U ≡ u → length B ≡ b → (end ≡ 0 → ⊥) → Bounds U B 4 end
-  end-bounds U B eu eb z = record {
-    from-le = omega (arith, z);
-    blocks = omega arith;
-    some = omega (arith, z);
-    in-used = omega arith;
-    in-bases = omega arith;
-    small = omega arith;
-  }
+  unfolding tableRoom
+  end-bounds U B eu eb z = whole-blocks t u b end (in-fours (min (t / 256) (min (u / 4) (b / 4))) 16777215 end is) U B eu eb z
 
   -- more blocks than 2^24 - 1 are never needed
   end-past : (ts : List Token) → Valid ts → end * 64 < words (puts ts) → capacity t u b < tableWords ts
@@ -113,10 +122,10 @@ roots-behind f rs rs' h e =
 
 -- ---- what the code answers
 
-pub few : (b : ℕ) {high end : ℕ} → high * 4 + 4 ≤ end → end ≡ 4 * min b 16777215 → high < 16777215
+pub few : (b : ℕ) {high end : ℕ} → high * 4 + 4 ≤ end → end * 64 ≡ min b (256 * 16777215) → high < 16777215
 few b h e = omega arith
 
-module _ (made end t u b : ℕ) (ee : end ≡ 4 * min (blocks t u b) 16777215) (m : Nodes) (rs ta : List ℕ) where
+module _ (made end t u b : ℕ) (ee : end * 64 ≡ min (tableRoom t u b) (256 * 16777215)) (m : Nodes) (rs ta : List ℕ) where
   abbrev pub Answers : Packed → List ℕ → List ℕ → Type 0
   Answers r rs' ta' =
       ((ts : List Token) → Valid ts → Stands ts rs m → made ≡ nodeCount ts → PackedAs ts (capacity t u b) rs ta r rs' ta')

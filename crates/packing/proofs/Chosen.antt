@@ -2,15 +2,15 @@
 -- for one node more. Assumes nothing.
 use mathlib.Core.Path.{_≡_, refl, sym, ap, ap₂, _∙_, subst}
 use mathlib.Core.Logic.{_⊎_, inl, inr}
-use mathlib.Core.Bool.{Bool, true, false, not, cond}
+use mathlib.Core.Bool.{Bool, true, false, not}
 use mathlib.Core.List.{List, [], _∷_, map, List·Memᴰ as Mem, List·Memᴰ·head as here}
 use Prim.Native.Nat.{ℕ, _-_, _*_, _/_, _%_, _≤_, _<_, max}
 use native.Mathlib.Omega.{arith}
-use lib.Dec.{eqb, leb, ltb}
+use lib.Dec.{eqb, ltb}
 use lib.ListN.{length, getD, set}
 use lib.Seq.{getD-set-same, getD-set-other}
 use lib.Bits.{bitXor, xor-comm}
-use borrow.Author.Tests.{eqb-true, eqb-false, leb-true, leb-false, ltb-true, ltb-false, not-false}
+use borrow.Author.Tests.{eqb-true, eqb-false, ltb-true, ltb-false, not-false}
 use Rattle.spec.specs.Lists.{any, byteIn}
 use Rattle.spec.specs.Layout.{Put, firstFrom, taken, free, words, top, first, choose, put}
 use Rattle.laws.specs.Tests.{or-r}
@@ -19,10 +19,10 @@ use Rattle.laws.specs.Xor.{xor-cancel, xor-block-of}
 use Rattle.laws.specs.First.{from-le, least}
 use Rattle.laws.specs.Placed.{grows, taken-refused, choose-least}
 use Rattle.laws.specs.Search.{marked, mark}
-use Rattle.packing.specs.Search.{markAll, Bounds, Placing, slotOn, placeOn, openOn, startOn, rememberOn}
+use Rattle.packing.specs.Search.{markAll, Bounds, slotOn, openOn, startOn}
 use Rattle.packing.proofs.Find.{bit-of-ones}
-use Rattle.packing.proofs.Steps.{yes-case, no-case, start-cases, start-in}
-use Rattle.packing.specs.Going.{MarksOk, CursorsOk, FrontOk, Going, PlacedAt, PlacedPast, PlacedOr}
+use Rattle.packing.proofs.Steps.{start-cases, start-in}
+use Rattle.packing.specs.Going.{MarksOk, CursorsOk, FrontOk, Going, Sought, Marked, PlacedPast, MarkedOr, PlacedOr}
 use Rattle.packing.proofs.Place.{first-get, from-top, chosen, slot-past, marks-then}
 use Rattle.packing.specs.declared.Placed.{Placed}
 use Rattle.packing.specs.declared.Placed.the-variants.{At, Full}
@@ -82,145 +82,123 @@ module _ (L : List ℕ → List ℕ) where
             ap (λ (z : List ℕ). free L xs z (bitXor s (first (L p)))) (alone-shape (e .0))
             ∙ K (first (L p)) s first-lt a (subst (λ (z : ℕ). s < z * 64) (e .1 ∙ ap (λ (z : ℕ). getD C z 0) (sym f)) b)
 
-  -- ---- one node more
+  -- ---- one node more: its slot and its marks
 
-  module _ (xs : List Put) (p : List ℕ) (some : 1 ≤ length (L p)) (U B C : List ℕ) (from high end : ℕ) (G : Going L xs U B C from high end)
-      (bounds : Bounds U B from end) where
-    abbrev start : ℕ
-    start = startOn C (L p) from end
-
+  -- by its labels, as the code has them
+  module _ (xs : List Put) (p : List ℕ) (U B : List ℕ) (start end : ℕ) (S : Sought L xs p U B start end) (bounds : Bounds U B start end)
+      (ls : List ℕ) (el : ls ≡ L p) (have : 1 ≤ length ls) where
     abbrev slot : ℕ
     slot = slotOn U B start end (L p)
 
-    low : 4 ≤ start
-    low = let a = G .front .low in let b = start-in C (L p) from end (bounds .from-le) .0 in omega arith
-
-    high-start : start ≤ end
-    high-start = start-in C (L p) from end (bounds .from-le) .1
+    abbrev found : ℕ
+    found = firstFrom (λ s. free L xs (L p) (bitXor s (first (L p)))) (words xs - 256) 256
 
     -- within the capacity
     at-choice : slot < end * 64 → bitXor slot (getD (L p) 0 0) ≡ choose L xs (L p)
-    at-choice h = sym (chosen L (G .small) xs p U B end (G .marks) (bounds .blocks) (bounds .in-used)
-        (bounds .in-bases) start high-start low (skipped (G .small) xs p some C from high end (G .front) (G .cursors)) h)
+    at-choice h = sym (chosen L (S .small) xs p U B end (S .marks) (bounds .blocks) (bounds .in-used) (bounds .in-bases) start
+        (bounds .from-le) (S .low) (S .before) h)
 
-    marks-more : slot < end * 64 → MarksOk L (put L xs p) (markAll (bitXor slot (getD (L p) 0 0)) U (L p))
-        (mark B (bitXor slot (getD (L p) 0 0))) end
-    marks-more h = marks-then L (G .small) xs p U B end (G .marks) (bounds .blocks) (bounds .in-used)
-        (bounds .in-bases) start high-start low (skipped (G .small) xs p some C from high end (G .front) (G .cursors))
-        (bitXor slot (getD (L p) 0 0)) h refl
-
-    abbrev found : ℕ
-    found = firstFrom (λ s. free L xs (L p) (bitXor s (first (L p)))) (words xs - 256) 256
+    marks-more : (b : ℕ) → slot < end * 64 → b ≡ bitXor slot (getD (L p) 0 0)
+        → MarksOk L (put L xs p) (markAll b U (L p)) (mark B b) end
+    marks-more b h e = marks-then L (S .small) xs p U B end (S .marks) (bounds .blocks) (bounds .in-used) (bounds .in-bases) start
+        (bounds .from-le) (S .low) (S .before) b h e
 
     -- past the capacity
     past-end : end * 64 ≤ slot → end * 64 < words (put L xs p)
     unfolding words put top choose
     past-end h =
-        let z = slot-past L (G .small) xs p U B end (G .marks) (bounds .blocks) (bounds .in-used) (bounds .in-bases) start high-start low
-        (skipped (G .small) xs p some C from high end (G .front) (G .cursors)) h in
-        let q = xor-block-of found (first (L p)) (first-lt (G .small) xs p some) in
+        let z = slot-past L (S .small) xs p U B end (S .marks) (bounds .blocks) (bounds .in-used) (bounds .in-bases) start
+        (bounds .from-le) (S .low) (S .before) h in
+        let q = xor-block-of found (first (L p)) (first-lt (S .small) xs p (subst (λ (k : List ℕ). 1 ≤ length k) el have)) in
         let four = bounds .blocks in
         omega arith
 
-    cursors-more : (b : ℕ) → 256 ≤ length C → b ≡ choose L xs (L p) → CursorsOk L (put L xs p) (rememberOn C (L p) b)
-    unfolding rememberOn put choose
-    cursors-more b hc eb = go (eqb (length (L p)) 1) refl
+    -- by the slot s that was found
+    module _ (s : ℕ) (is : s ≡ slotOn U B start end ls) where
+      slot-now : s ≡ slot
+      slot-now = is ∙ ap (slotOn U B start end) el
+
+      pub sought-past : end * 64 ≤ s → PlacedPast L xs p end Full
+      sought-past h = record { answer = refl; past = past-end (subst (λ (z : ℕ). end * 64 ≤ z) slot-now h) }
+
+      pub sought-at : (b : ℕ) (U' B' : List ℕ) → s < end * 64 → b ≡ bitXor s (getD ls 0 0) → U' ≡ markAll b U ls → B' ≡ mark B b
+          → Marked L xs p end U' B' (At b)
+      sought-at b U' B' h eb eu em =
+          let lt = subst (λ (z : ℕ). z < end * 64) slot-now h in
+          let e : b ≡ bitXor slot (getD (L p) 0 0) = eb ∙ ap₂ (λ (x : ℕ) (k : List ℕ). bitXor x (getD k 0 0)) slot-now el in
+          record {
+            answer = ap At (e ∙ at-choice lt);
+            marks = subst (λ (X : List ℕ). MarksOk L (put L xs p) X B' end) (sym (eu ∙ ap (markAll b U) el))
+                (subst (λ (Y : List ℕ). MarksOk L (put L xs p) (markAll b U (L p)) Y end) (sym em) (marks-more b lt e));
+          }
+
+  -- ---- its cursor
+
+  module _ (small : ByteLabels L) (xs : List Put) (p : List ℕ) (C : List ℕ) (K : CursorsOk L xs C) where
+    pub cursors-kept : CursorsOk L (put L xs p) C
+    unfolding put
+    cursors-kept = cursors-stay xs (record { node = p; base = choose L xs (L p) }) C K
+
+    -- of a node of one label: what lies before the word of its slot is refused for such a node
+    pub cursors-set : (ls : List ℕ) → ls ≡ L p → length ls ≡ 1 → 256 ≤ length C → (l b w : ℕ) → l ≡ getD ls 0 0 → b ≡ choose L xs (L p)
+        → w ≡ bitXor b l / 64 → CursorsOk L (put L xs p) (set C l w)
+    unfolding put choose
+    cursors-set ls el alone hc l b w il eb ew k s hk a lt = go (eqb k l) refl
       where
-        l1 : ℕ
-        l1 = getD (L p) 0 0
+        one : length (L p) ≡ 1
+        one = ap length (sym el) ∙ alone
 
-        w : ℕ
-        w = bitXor b l1 / 64
+        some : 1 ≤ length (L p)
+        some = omega (arith, one)
 
-        back : bitXor b l1 ≡ found
-        back = let f = first-get (L p) in ap₂ bitXor eb (sym f) ∙ xor-comm (bitXor found (first (L p))) (first (L p))
-            ∙ ap (bitXor (first (L p))) (xor-comm found (first (L p))) ∙ xor-cancel (first (L p)) found
+        l-first : l ≡ first (L p)
+        l-first = il ∙ ap (λ (z : List ℕ). getD z 0 0) el ∙ sym (first-get (L p))
 
-        old : CursorsOk L (record { node = p; base = choose L xs (L p) } ∷ xs) C
-        old = cursors-stay xs (record { node = p; base = choose L xs (L p) }) C (G .cursors)
+        found′ : ℕ
+        found′ = firstFrom (λ s. free L xs (L p) (bitXor s (first (L p)))) (words xs - 256) 256
 
-        new : length (L p) ≡ 1 → (l s : ℕ) → l < 256 → 256 ≤ s → s < getD (set C l1 w) l 0 * 64 → (c : Bool) → eqb l l1 ≡ c
-            → free L (record { node = p; base = choose L xs (L p) } ∷ xs) (l ∷ []) (bitXor s l) ≡ false
-        new one l s hl a b false e = old l s hl a (subst (λ (z : ℕ). s < z * 64) (getD-set-other C l1 l w 0 (eqb-false l l1 e)) b)
-        new one l s hl a b true e =
-            let is : l ≡ first (L p) = eqb-true l l1 e ∙ sym (first-get (L p)) in
-            let at : getD (set C l1 w) l 0 ≡ w = ap (λ (z : ℕ). getD (set C l1 w) z 0) (eqb-true l l1 e)
-            ∙ getD-set-same C l1 w 0 (omega (arith, is, first-get (L p), first-lt (G .small) xs p some)) in
-            let lt : s < found = omega (arith, back) in
-            grows L xs (record { node = p; base = choose L xs (L p) }) (l ∷ []) (bitXor s l)
+        back : bitXor b l ≡ found′
+        back = ap₂ bitXor eb l-first ∙ xor-comm (bitXor found′ (first (L p))) (first (L p))
+            ∙ ap (bitXor (first (L p))) (xor-comm found′ (first (L p))) ∙ xor-cancel (first (L p)) found′
+
+        go : (c : Bool) → eqb k l ≡ c → free L (record { node = p; base = choose L xs (L p) } ∷ xs) (k ∷ []) (bitXor s k) ≡ false
+        go false e = cursors-stay xs (record { node = p; base = choose L xs (L p) }) C K k s hk a
+            (subst (λ (z : ℕ). s < z * 64) (getD-set-other C l k w 0 (eqb-false k l e)) lt)
+        go true e =
+            let is : k ≡ first (L p) = eqb-true k l e ∙ l-first in
+            let at : getD (set C l w) k 0 ≡ w = ap (λ (z : ℕ). getD (set C l w) z 0) (eqb-true k l e)
+            ∙ getD-set-same C l w 0 (omega (arith, l-first, first-lt small xs p some)) in
+            let under : s < found′ = omega (arith, back) in
+            grows L xs (record { node = p; base = choose L xs (L p) }) (k ∷ []) (bitXor s k)
             (subst (λ (z : ℕ). free L xs (z ∷ []) (bitXor s z) ≡ false) (sym is)
-            (ap (λ (z : List ℕ). free L xs z (bitXor s (first (L p)))) (sym (alone-shape (G .small) xs p some one))
-            ∙ choose-least L (G .small) xs p s a lt))
+            (ap (λ (z : List ℕ). free L xs z (bitXor s (first (L p)))) (sym (alone-shape small xs p some one))
+            ∙ choose-least L small xs p s a under))
 
-        go : (c : Bool) → eqb (length (L p)) 1 ≡ c
-            → CursorsOk L (record { node = p; base = choose L xs (L p) } ∷ xs) (cond c (set C l1 w) C)
-        go false e = old
-        go true e = λ l s hl a b. new (eqb-true (length (L p)) 1 e) l s hl a b (eqb l l1) refl
+  -- ---- the step: the node is placed by `choose`, or its slot lies past the capacity
 
-    -- the step: the node is placed by `choose`, or its slot lies past the capacity
-    placed-at : (ls : List ℕ) → ls ≡ L p → (U' B' C' : List ℕ) (b : ℕ) → 256 ≤ length C
-        → _≡_ {A = Placing} (record { used = U'; bases = B'; answer = At b }) (placeOn U B (startOn C ls from end) end ls)
-        → C' ≡ rememberOn C ls b
-        → PlacedAt L xs p end U' B' C' (At b)
-    unfolding placeOn
-    placed-at ls el U' B' C' b hc e ec = go (leb (end * 64) slot) refl
-      where
-        is : _≡_ {A = Placing} (record { used = U'; bases = B'; answer = At b }) (placeOn U B start end (L p))
-        is = e ∙ ap (λ (k : List ℕ). placeOn U B (startOn C k from end) end k) el
+  pub sought : (xs : List Put) (p : List ℕ) (U B C : List ℕ) (from high end : ℕ) → Going L xs U B C from high end → from ≤ end
+      → (ls : List ℕ) → ls ≡ L p → 1 ≤ length ls → (begin : ℕ) → begin ≡ startOn C ls from end → Sought L xs p U B begin end
+  sought xs p U B C from high end G h ls el have begin eb =
+      subst (λ (z : ℕ). Sought L xs p U B z end) (sym (eb ∙ ap (λ (k : List ℕ). startOn C k from end) el)) record {
+        small = G .small;
+        marks = G .marks;
+        low = (let a = G .front .low in let b = start-in C (L p) from end h .0 in omega arith);
+        before = skipped (G .small) xs p (subst (λ (k : List ℕ). 1 ≤ length k) el have) C from high end (G .front) (G .cursors);
+      }
 
-        go : (c : Bool) → leb (end * 64) slot ≡ c → PlacedAt L xs p end U' B' C' (At b)
-        go true q =
-            let no : At b ≡ Full = ap (λ (x : Placing). x .answer) (is ∙ yes-case _ _ q) in
-            let z : _≡_ {A = ℕ} 0 1 = cc in absurd (omega arith)
-        go false q =
-            let h = leb-false (end * 64) slot q in
-            let to : _≡_ {A = Placing} (record { used = U'; bases = B'; answer = At b })
-            (record {
-              used = markAll (bitXor slot (getD (L p) 0 0)) U (L p);
-              bases = mark B (bitXor slot (getD (L p) 0 0));
-              answer = At (bitXor slot (getD (L p) 0 0));
-            }) = is ∙ no-case _ _ q in
-            let b-is : At b ≡ At (bitXor slot (getD (L p) 0 0)) = ap (λ (x : Placing). x .answer) to in
-            record {
-              answer = b-is ∙ ap At (at-choice h);
-              marks = subst (λ (x : Placing). MarksOk L (put L xs p) (x .used) (x .bases) end) (sym to) (marks-more h);
-              cursors = subst (CursorsOk L (put L xs p)) (sym (ec ∙ ap (λ (k : List ℕ). rememberOn C k b) el))
-                  (cursors-more b hc ((let f : b ≡ bitXor slot (getD (L p) 0 0) = cc in f) ∙ at-choice h));
-            }
+  module _ (xs : List Put) (p : List ℕ) (end : ℕ) (U' B' C' : List ℕ) where
+    pub stands-full : (r : Placed) → MarkedOr L xs p end U' B' r → r ≡ Full → PlacedOr L xs p end U' B' C' Full
+    stands-full r (inl M) i =
+        let no : Full ≡ At (choose L xs (L p)) = sym i ∙ M .answer in let z : _≡_ {A = ℕ} 0 1 = cc in absurd (omega arith)
+    stands-full r (inr P) i = inr (record { answer = refl; past = P .past })
 
-    placed-past : (ls : List ℕ) → ls ≡ L p → (U' B' : List ℕ)
-        → _≡_ {A = Placing} (record { used = U'; bases = B'; answer = Full }) (placeOn U B (startOn C ls from end) end ls)
-        → PlacedPast L xs p end Full
-    unfolding placeOn
-    placed-past ls el U' B' e = go (leb (end * 64) slot) refl
-      where
-        is : _≡_ {A = Placing} (record { used = U'; bases = B'; answer = Full }) (placeOn U B start end (L p))
-        is = e ∙ ap (λ (k : List ℕ). placeOn U B (startOn C k from end) end k) el
-
-        go : (c : Bool) → leb (end * 64) slot ≡ c → PlacedPast L xs p end Full
-        go true q = record { answer = refl; past = past-end (leb-true (end * 64) slot q) }
-        go false q =
-            let no : Full ≡ At (bitXor slot (getD (L p) 0 0)) = ap (λ (x : Placing). x .answer) (is ∙ no-case _ _ q) in
-            let z : _≡_ {A = ℕ} 0 1 = cc in absurd (omega arith)
-
-  -- as the code has it
-  module _ (xs : List Put) (p : List ℕ) (U B C : List ℕ) (from high end : ℕ) (G : Going L xs U B C from high end)
-      (bounds : Bounds U B from end)
-      (ls : List ℕ) (el : ls ≡ L p) (some : 1 ≤ length ls) (begin : ℕ) (eb : begin ≡ startOn C ls from end) (U' B' : List ℕ) (r : Placed)
-      (e : _≡_ {A = Placing} (record { used = U'; bases = B'; answer = r }) (placeOn U B begin end ls)) where
-    with-answer : (q : Placed) → q ≡ r
-        → _≡_ {A = Placing} (record { used = U'; bases = B'; answer = q }) (placeOn U B (startOn C ls from end) end ls)
-    with-answer q i = ap (λ (x : Placed). record { used = U'; bases = B'; answer = x }) i ∙ e ∙ ap (λ (s : ℕ). placeOn U B s end ls) eb
-
-    some-labels : 1 ≤ length (L p)
-    some-labels = subst (λ (k : List ℕ). 1 ≤ length k) el some
-
-    pub stands-full : r ≡ Full → (C' : List ℕ) → PlacedOr L xs p end U' B' C' Full
-    stands-full i C' = inr (placed-past xs p some-labels U B C from high end G bounds ls el U' B' (with-answer Full (sym i)))
-
-    pub stands-at : (b : ℕ) → r ≡ At b → 256 ≤ length C → (C' : List ℕ) → C' ≡ rememberOn C ls b → PlacedOr L xs p end U' B' C' (At b)
-    stands-at b i hc C' ec = inl (placed-at xs p some-labels U B C from high end G bounds ls el U' B' C' b hc
-        (with-answer (At b) (sym i)) ec)
+    pub stands-at : (r : Placed) (b : ℕ) → MarkedOr L xs p end U' B' r → r ≡ At b
+        → (b ≡ choose L xs (L p) → CursorsOk L (put L xs p) C') → PlacedOr L xs p end U' B' C' (At b)
+    stands-at r b (inl M) i K =
+        let is : At b ≡ At (choose L xs (L p)) = sym i ∙ M .answer in
+        inl (record { answer = is; marks = M .marks; cursors = K (let f : b ≡ choose L xs (L p) = cc in f) })
+    stands-at r b (inr P) i K =
+        let no : Full ≡ At b = sym (P .answer) ∙ i in let z : _≡_ {A = ℕ} 0 1 = cc in absurd (omega arith)
 
   -- the first word that is not full, after a node more
   pub front-then : (xs : List Put) (p : List ℕ) (U B : List ℕ) (from high end b : ℕ) → FrontOk L xs from high end

@@ -28,7 +28,7 @@ use Rattle.trie.specs.Stands.{Chain, num, Tree, Roots}
 use Rattle.trie.specs.Chains.{final-snoc, number-pos, number-lt, kid-lt, length-map, labels-few, num-in, num-out, member}
 use Rattle.trie.specs.declared.Node.{Node}
 use Rattle.packing.proofs.Steps.{yes-case, no-case}
-use Rattle.packing.specs.Nodes.{nodeWord, childWrites, nodeWrites, rootWord, rootWords}
+use Rattle.packing.specs.Nodes.{nodeWord, asRoot, childWrites, nodeWrites, rootWord, rootWords}
 use Rattle.packing.proofs.Turns.{children-end, children-on, root-none, root-at}
 
 -- the nodes of ts, each with its base
@@ -180,7 +180,7 @@ roots-over ts m rs D R h = ap₂ (λ (l : List ℕ) (k : ℕ). l ++ drop k rs)
         → f (num ps (a ∷ b ∷ [])) ≡ cond (has ps (a ∷ b ∷ [])) (wordOf ts (a ∷ b ∷ []) zero) zero
     at a b (inl mp) =
         ap f (num-in mp)
-        ∙ sym (root-at (see m) (nodeCount ts) (number ps (a ∷ b ∷ [])) (nodeWord (see m (number ps (a ∷ b ∷ []))) 0)
+        ∙ sym (root-at (see m) (nodeCount ts) (number ps (a ∷ b ∷ [])) (asRoot (see m (number ps (a ∷ b ∷ []))))
         (see m (number ps (a ∷ b ∷ []))) (λ z. let k = number-pos ps (a ∷ b ∷ []) in omega arith)
         (unfold nodeCount in let k = number-lt mp in omega arith) refl refl)
         ∙ word-is ts m D (a ∷ b ∷ []) 0 mp ∙ sym (yes-case _ _ (mem-has mp))

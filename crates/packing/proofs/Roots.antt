@@ -8,7 +8,7 @@ use lib.Dec.{eqb, ltb}
 use lib.ListN.{length, getD, set, take, drop}
 use borrow.Author.Tests.{eq-eqb, ne-eqb, eqb-true, eqb-false, ltb-true, ltb-false}
 use Rattle.trie.specs.declared.Node.{Node}
-use Rattle.packing.specs.Nodes.{nodeWord, rootWord, rootWords}
+use Rattle.packing.specs.Nodes.{asRoot, rootWord, rootWords}
 use Rattle.packing.proofs.Steps.{yes-case, no-case}
 use Rattle.packing.proofs.Turns.{root-none, root-out, root-at, cell-old, cell-new}
 
@@ -22,17 +22,17 @@ module _ (made r at : ℕ) (one : 1 ≤ made) (ea : at ≡ cond (ltb r made) r 0
       go false e = let q : at ≡ 0 = ea ∙ no-case r 0 e in omega arith
 
   -- and its word is that of the root
-  pub is-word : (M : ℕ → Node) (w : ℕ) (n : Node) → n ≡ M at → w ≡ cond (eqb at 0) 0 (nodeWord n 0) → w ≡ rootWord M made r
+  pub is-word : (M : ℕ → Node) (w : ℕ) (n : Node) → n ≡ M at → w ≡ cond (eqb at 0) 0 (asRoot n) → w ≡ rootWord M made r
   is-word M w n en ew = go (ltb r made) refl
     where
       none-at : at ≡ 0 → w ≡ 0
-      none-at e = ew ∙ yes-case 0 (nodeWord n 0) (eq-eqb at 0 e)
+      none-at e = ew ∙ yes-case 0 (asRoot n) (eq-eqb at 0 e)
 
       some-at : at ≡ r → r < made → (z : Bool) → eqb r 0 ≡ z → w ≡ rootWord M made r
       some-at q h true e = none-at (q ∙ eqb-true r 0 e) ∙ root-none M made r (eqb-true r 0 e)
       some-at q h false e =
           let some : r ≡ 0 → ⊥ = eqb-false r 0 e in
-          root-at M made r w n some h (en ∙ ap M q) (ew ∙ no-case 0 (nodeWord n 0) (ne-eqb at 0 (λ z. some (sym q ∙ z))))
+          root-at M made r w n some h (en ∙ ap M q) (ew ∙ no-case 0 (asRoot n) (ne-eqb at 0 (λ z. some (sym q ∙ z))))
 
       go : (b : Bool) → ltb r made ≡ b → w ≡ rootWord M made r
       go true e = some-at (ea ∙ yes-case r 0 e) (ltb-true r made e) (eqb r 0) refl

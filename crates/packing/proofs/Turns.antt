@@ -17,7 +17,7 @@ use Rattle.laws.specs.Fill.{write}
 use Rattle.trie.specs.Chains.{length-map}
 use Rattle.trie.specs.declared.Node.{Node}
 use Rattle.packing.proofs.Steps.{yes-case, no-case}
-use Rattle.packing.specs.Nodes.{nodeWord, childWrites, nodeWrites, rootWord}
+use Rattle.packing.specs.Nodes.{nodeWord, asRoot, childWrites, nodeWrites, rootWord}
 
 -- ---- words
 
@@ -106,9 +106,9 @@ module _ (M : ℕ → Node) (made : ℕ) where
   unfolding rootWord
   root-out r z h = sym (no-case _ _ (ne-eqb r 0 z) ∙ yes-case _ _ (le-leb made r h))
 
-  pub root-at : (r w : ℕ) (n : Node) → (r ≡ 0 → ⊥) → r < made → n ≡ M r → w ≡ nodeWord n 0 → w ≡ rootWord M made r
+  pub root-at : (r w : ℕ) (n : Node) → (r ≡ 0 → ⊥) → r < made → n ≡ M r → w ≡ asRoot n → w ≡ rootWord M made r
   unfolding rootWord
-  root-at r w n z h en ew = ew ∙ ap (λ (x : Node). nodeWord x 0) en ∙ sym (no-case _ _ (ne-eqb r 0 z) ∙ no-case _ _ (lt-leb made r h))
+  root-at r w n z h en ew = ew ∙ ap asRoot en ∙ sym (no-case _ _ (ne-eqb r 0 z) ∙ no-case _ _ (lt-leb made r h))
 
 map-append : {A B : Type 0} (f : A → B) (s t : List A) → map f (s ++ t) ≡ map f s ++ map f t
 map-append f [] t = refl

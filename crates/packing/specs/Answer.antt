@@ -3,20 +3,21 @@
 use mathlib.Core.Path.{_≡_}
 use mathlib.Core.Bool.{cond}
 use mathlib.Core.List.{List}
-use Prim.Native.Nat.{ℕ, _*_}
+use Prim.Native.Nat.{ℕ}
 use lib.Dec.{leb}
 use lib.ListN.{length}
 use Rattle.spec.specs.Lists.{over}
 use Rattle.spec.specs.Token.{Token}
 use Rattle.spec.specs.Layout.{tableWords}
+use Rattle.spec.specs.Load.{tableRoom}
 use Rattle.spec.specs.Memory.{padded, tableList, rootList}
-use Rattle.packing.specs.Nodes.{blocks}
 use Rattle.packing.specs.declared.Packed.{Packed}
 use Rattle.packing.specs.declared.Packed.the-variants.{Words, NoRoom}
 
 -- the table capacity, by the lengths of the table and of both runs of marks
 unfoldable pub capacity : ℕ → ℕ → ℕ → ℕ
-capacity table used bases = 256 * blocks table used bases
+unfolding tableRoom
+capacity table used bases = tableRoom table used bases
 
 -- the layout's words where they fit, else 21
 unfoldable pub answerFor : List Token → ℕ → Packed

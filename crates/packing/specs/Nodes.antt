@@ -2,7 +2,7 @@
 -- Assumes nothing.
 use mathlib.Core.Bool.{true, false, cond}
 use mathlib.Core.List.{List, [], _∷_, _++_, map}
-use Prim.Native.Nat.{ℕ, zero, suc, _/_, max, min}
+use Prim.Native.Nat.{ℕ, zero, suc, _/_, max}
 use lib.Dec.{eqb, leb}
 use lib.Bits.{bitXor}
 use lib.ListN.{take, drop}
@@ -34,16 +34,16 @@ abbrev pub passedOn : List ℕ → Front → ℕ → Placed → Front
 passedOn U at end (At b) = record { from = openOn U (at .from) end; high = max (b / 256) (at .high); full = false }
 passedOn U at end Full = record { from = at .from; high = at .high; full = true }
 
--- "the most whole blocks that the table and both runs of marks each hold", by their lengths
-abbrev pub blocks : ℕ → ℕ → ℕ → ℕ
-blocks table used bases = min (table / 256) (min (used / 4) (bases / 4))
-
 -- ---- words
 
 -- a node's word with the byte l that leads to it, once its base stands in the field tail
 unfoldable pub nodeWord : Node → ℕ → ℕ
 unfolding pack
 nodeWord n l = pack (n .tail) (n .term) l
+
+-- a node's word as a root: "the incoming byte in bits 0 to 7 (0 in a root)"
+abbrev pub asRoot : Node → ℕ
+asRoot n = nodeWord n 0
 
 -- M gives the nodes, `made` of them
 module _ (M : ℕ → Node) (made : ℕ) where
@@ -64,7 +64,7 @@ module _ (M : ℕ → Node) (made : ℕ) where
   -- the word of a root that holds a node's number
   unfoldable pub rootWord : ℕ → ℕ
   unfolding nodeWord
-  rootWord r = cond (eqb r 0) 0 (cond (leb made r) 0 (nodeWord (M r) 0))
+  rootWord r = cond (eqb r 0) 0 (cond (leb made r) 0 (asRoot (M r)))
 
 -- the first 65,536 roots become what f makes of them
 unfoldable pub rootWords : (ℕ → ℕ) → List ℕ → List ℕ

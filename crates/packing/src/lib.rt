@@ -7,12 +7,13 @@ ghost use lib.ListN.{length, take, replicate};
 ghost use Rattle.spec.specs.Token.{Token, idOf};
 ghost use Rattle.spec.specs.Trie.{nodes as nodesOf, nodeCount};
 ghost use Rattle.spec.specs.Layout.{Put, puts};
+ghost use Rattle.spec.specs.Load.{tableRoom};
 ghost use Rattle.spec.specs.Valid.{Valid};
 ghost use Rattle.trie.specs.Run.{room};
 ghost use Rattle.trie.specs.Stands.{Stands, RootsKept};
 ghost use Rattle.packing.specs.Search.{Bounds, Below};
 ghost use Rattle.packing.specs.Going.{Going, PlacedOr};
-ghost use Rattle.packing.specs.Nodes.{keptIn, passedOn, blocks};
+ghost use Rattle.packing.specs.Nodes.{keptIn, passedOn};
 ghost use Rattle.packing.specs.Walk.{Turn, Walked, Within, Ended};
 ghost use Rattle.packing.specs.Answer.{capacity, PackedAs};
 
@@ -244,10 +245,9 @@ fn place_all(
 
 // ---- the whole
 
-// How many words of marks are searched: four for each whole block that the table and both runs have. No layout needs more blocks than
-// 2^24 - 1.
+// How many words of marks are searched, 64 slots in each: those of the table capacity. No layout needs more blocks than 2^24 - 1.
 fn words_of_marks(table: usize, used: usize, bases: usize) -> usize
-    ensures { λ r. ⌜ r ≡ 4 * min (blocks table used bases) 16777215 ⌝ }
+    ensures { λ r. ⌜ r * 64 ≡ min (tableRoom table used bases) (256 * 16777215) ⌝ }
 {
     let b = smaller(table / 256, smaller(used / 4, bases / 4));
     4 * smaller(b, 16777215)

@@ -1,16 +1,18 @@
 // Marks of slots and bases, 64 to a word, and the search for a node's slot by words of 64 candidates.
 ghost use mathlib.Core.Path.{_≡_};
-ghost use mathlib.Core.Bool.{not};
+ghost use mathlib.Core.Bool.{not, _||_};
 ghost use mathlib.Core.List.{List};
 ghost use Prim.Native.Nat.{ℕ, _+_, _-_, _*_, _/_, _^_, _<_, _≤_};
+ghost use lib.Dec.{eqb};
 ghost use lib.ListN.{length};
 ghost use lib.Bits.{bitXor};
-ghost use Rattle.spec.specs.Layout.{Put, firstFrom};
+ghost use Rattle.spec.specs.Layout.{Put, firstFrom, choose, put};
+ghost use Rattle.laws.specs.Nodes.{ByteLabels};
 ghost use Rattle.laws.specs.Perm.{bit, maybe, xorPerm};
-ghost use Rattle.laws.specs.Search.{mark};
+ghost use Rattle.laws.specs.Search.{marked, mark};
 ghost use Rattle.packing.specs.Search.{movedWord, BadWord, badAt, markAll, Bounds};
 ghost use Rattle.packing.specs.Search.{Placing, placeOn, Below, startOn, rememberOn, openOn};
-ghost use Rattle.packing.specs.Going.{Going, PlacedOr};
+ghost use Rattle.packing.specs.Going.{CursorsOk, Going, Sought, MarkedOr, PlacedOr};
 use crate::Placed;
 use crate::count;
 use crate::narrow;
@@ -98,9 +100,11 @@ fn one_bit(k: usize) -> u64
     1u64 << k
 }
 
+// Slot s is marked, and no other.
 fn mark_slot(marks: &mut [u64], s: usize)
     requires { ⌜ s / 64 < length (now marks) ⌝ }
-    ensures { λ r. ⌜ now (marks .exit) ≡ mark (now (marks .entry)) s ⌝ }
+    ensures means { λ r. ⌜ ((t : ℕ) → marked (now (marks .exit)) t ≡ (marked (now (marks .entry)) t || eqb t s)) ⌝ }
+    ensures same { λ r. ⌜ now (marks .exit) ≡ mark (now (marks .entry)) s ⌝ }
 {
     let i = s / 64;
     marks[i] = marks[i] | one_bit(s % 64);
@@ -118,12 +122,15 @@ fn mark_all(marks: &mut [u64], base: usize, labels: &[u8])
     }
 }
 
-// Places a node with these labels at its smallest slot from word start on.
+// Places a node with these labels at the smallest slot from word start on: the smallest of all, where what lies before is refused.
 fn place_one(used: &mut [u64], bases: &mut [u64], start: usize, end: usize, labels: &[u8]) -> Placed
     requires { ⌜ Bounds (now used) (now bases) start end × (1 ≤ length (now labels)) ⌝ }
+    ensures stands { λ r. ⌜ ((L : List ℕ → List ℕ) (xs : List Put) (p : List ℕ) → now (labels .entry) ≡ L p
+        → Sought L xs p (now (used .entry)) (now (bases .entry)) start end
+        → MarkedOr L xs p end (now (used .exit)) (now (bases .exit)) r) ⌝ }
+    ensures small { λ r. ⌜ Below (end * 64) r ⌝ }
     ensures level { λ r. ⌜ _≡_ {A = Placing} (record { used = now (used .exit); bases = now (bases .exit); answer = r })
         (placeOn (now (used .entry)) (now (bases .entry)) start end (now (labels .entry))) ⌝ }
-    ensures small { λ r. ⌜ Below (end * 64) r ⌝ }
 {
     let s = find_slot(used, bases, start, end, labels);
     if end * 64 <= s {
@@ -171,10 +178,12 @@ fn start_of(cursors: &[u32], labels: &[u8], from: usize, end: usize) -> usize
     cursor
 }
 
-// A node of one label was placed at base: its label's cursor is the word of its slot.
+// A node was placed at base. If it has one label, its label's cursor is the word of its slot.
 fn remember(cursors: &mut [u32], labels: &[u8], base: usize)
     requires { ⌜ (256 ≤ length (now cursors)) × (1 ≤ length (now labels)) × (base < 2 ^ 32) ⌝ }
-    ensures { λ r. ⌜ now (cursors .exit) ≡ rememberOn (now (cursors .entry)) (now (labels .entry)) base ⌝ }
+    ensures stands { λ r. ⌜ ((L : List ℕ → List ℕ) (xs : List Put) (p : List ℕ) → now (labels .entry) ≡ L p → ByteLabels L
+        → base ≡ choose L xs (L p) → CursorsOk L xs (now (cursors .entry)) → CursorsOk L (put L xs p) (now (cursors .exit))) ⌝ }
+    ensures level { λ r. ⌜ now (cursors .exit) ≡ rememberOn (now (cursors .entry)) (now (labels .entry)) base ⌝ }
 {
     if labels.len() != 1 {
         return;

@@ -9,7 +9,7 @@ ghost use Rattle.spec.specs.Lists.{fold};
 ghost use Rattle.spec.specs.Layout.{pack};
 ghost use Rattle.laws.specs.Fill.{write};
 ghost use Rattle.trie.specs.Run.{room, see};
-ghost use Rattle.packing.specs.Nodes.{nodeWord, childWrites, nodeWrites, rootWord, rootWords};
+ghost use Rattle.packing.specs.Nodes.{nodeWord, asRoot, childWrites, nodeWrites, rootWord, rootWords};
 use crate::clear;
 use crate::count;
 use crate::one_less;
@@ -115,7 +115,7 @@ pub fn root_number(root: u64, made: u32) -> u32
 
 // The word of node `at` as a root: no byte leads to it. Node 0 is none.
 pub fn root_word_of(n: Node, at: u32) -> u64
-    ensures { λ r. ⌜ r ≡ cond (eqb at 0) 0 (nodeWord n 0) ⌝ }
+    ensures { λ r. ⌜ r ≡ cond (eqb at 0) 0 (asRoot n) ⌝ }
 {
     if at == 0 {
         return 0;

@@ -181,6 +181,7 @@ module _ {ps : List (List ℕ)} {I : List ℕ → ℕ} {rs : List ℕ} {m : Node
           (node-alike m m' (number ps x) (kids ps x) (I x) (final x) (alike x mx ne) (others x ne) (T .node x mx))
 
   last' : (x : List ℕ) → Mem x ps ⊎ (x ≡ q) → see m' (number ps' x) .tail ≡ final (kids ps' x)
+  unfolding grown
   last' x (inr e) =
       ap (λ (z : List ℕ). see m' (number ps' z) .tail) e ∙ ap (λ (z : ℕ). see m' z .tail) (number-new ps q new)
       ∙ leaf-tail m' made b (link .new) ∙ ap final (sym kids-new) ∙ ap (λ (z : List ℕ). final (kids ps' z)) (sym e)
@@ -189,11 +190,8 @@ module _ {ps : List (List ℕ)} {I : List ℕ → ℕ} {rs : List ℕ} {m : Node
       go : (x ≡ p) ⊎ (x ≡ p → ⊥) → see m' (number ps' x) .tail ≡ final (kids ps' x)
       go (inl e) =
           ap (λ (z : ℕ). see m' z .tail) (number-stays (q ∷ []) mx) ∙ ap (λ (z : List ℕ). see m' (number ps z) .tail) e
-          ∙ ap (λ (z : Node). z .tail) (link .par) ∙ grown-tail (see m k) ∙ sym (final-snoc (kids ps p) made)
+          ∙ ap (λ (z : Node). z .tail) (link .par) ∙ sym (final-snoc (kids ps p) made)
           ∙ ap final (sym (kids-self ps p b new)) ∙ ap (λ (z : List ℕ). final (kids ps' z)) (sym e)
-        where
-          grown-tail : (n : Node) → grown n made .tail ≡ made
-          grown-tail n = unfold grown in refl
       go (inr ne) =
           ap (λ (z : ℕ). see m' z .tail) (number-stays (q ∷ []) mx) ∙ alike x mx ne .tail ∙ G .last x mx
           ∙ ap final (sym (kids-other ps p b new x ne))

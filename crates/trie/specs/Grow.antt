@@ -8,14 +8,14 @@ use mathlib.Core.List.{List, [], _∷_, _++_, append-nil, append-assoc, List·Me
 use mathlib.Core.List.{List·Memᴰ·not-nil as not-nil, Memᴰ·append-right as mem-right, Memᴰ·cast as mem-cast}
 use Prim.Native.Nat.{ℕ, suc, _+_, _*_, _≤_, _<_}
 use native.Mathlib.Omega.{arith}
-use lib.Dec.{eqb, leb}
+use lib.Dec.{eqb, leb, ltb}
 use lib.ListN.{length, getD, set, take, drop, length-append}
 use lib.Seq.{drop-set-lt, length-take-le}
-use borrow.Author.Tests.{eqb-true, eqb-false, eq-eqb, ne-eqb, le-leb, lt-leb, leb-true, leb-false}
+use borrow.Author.Tests.{eqb-true, eqb-false, eq-eqb, ne-eqb, le-leb, lt-leb, lt-ltb, le-ltb, leb-true, leb-false, ltb-true}
 use Rattle.spec.specs.Lists.{any, fold, same, has, Bytes}
 use Rattle.spec.specs.Token.{Token, idOf, seen}
 use Rattle.spec.specs.Trie.{extended, cuts, addNew, nodes, nodeCount}
-use Rattle.laws.specs.Tests.{either, no-true, same-eq, same-refl, has-mem, mem-has}
+use Rattle.laws.specs.Tests.{either, no-true, iff-eq, same-eq, same-refl, has-mem, mem-has}
 use Rattle.laws.specs.Tokens.{id-cases}
 use Rattle.laws.specs.Nodes.{Cut, cuts-cut, is-node}
 use Rattle.laws.specs.Numbered.{number}
@@ -54,6 +54,27 @@ new-out ps x n = no-case _ _ (no-true (has ps x) (λ e. n (has-mem ps x e)))
 
 one-more : {A : Type 0} (ps : List A) (q : A) → length (ps ++ (q ∷ [])) ≡ suc (length ps)
 one-more ps q = let c = length-append ps (q ∷ []) in let d : length (q ∷ []) ≡ 1 = refl in omega arith
+
+-- a root leads to no node just where there is no room for the nodes with its own
+pub no-node : (ps : List (List ℕ)) (p : List ℕ) (root cap made : ℕ) → root ≡ num ps p → made ≡ suc (length ps) → made ≤ cap
+    → cond (eqb root 0) (leb cap made) (leb made root) ≡ ltb cap (suc (length (addNew ps p)))
+no-node ps p root cap made er em h = go (member ps p)
+  where
+    go : Mem p ps ⊎ (Mem p ps → ⊥) → cond (eqb root 0) (leb cap made) (leb made root) ≡ ltb cap (suc (length (addNew ps p)))
+    go (inl mp) =
+        let is : root ≡ number ps p = er ∙ num-in mp in
+        let pos = number-pos ps p in
+        let lt = number-lt mp in
+        let len = ap length (new-in ps p mp) in
+        no-case _ _ (ne-eqb root 0 (λ z. omega arith)) ∙ lt-leb made root (omega arith)
+        ∙ sym (le-ltb cap (suc (length (addNew ps p))) (omega arith))
+    go (inr n) =
+        let is : root ≡ 0 = er ∙ num-out ps p n in
+        let len = ap length (new-out ps p n) ∙ one-more ps p in
+        yes-case _ _ (eq-eqb root 0 is)
+        ∙ iff-eq (leb cap made) (ltb cap (suc (length (addNew ps p))))
+        (λ e. let q = leb-true cap made e in lt-ltb cap (suc (length (addNew ps p))) (omega arith))
+        (λ e. let q = ltb-true cap (suc (length (addNew ps p))) e in le-leb cap made (omega arith))
 
 -- ---- the way down
 

@@ -7,7 +7,7 @@ use native.Mathlib.Omega.{arith}
 use lib.Dec.{eqb, leb}
 use lib.ListN.{length, getD, drop, set, take, drop-of-length-le}
 use lib.Seq.{drop-cons, getD-take}
-use borrow.Author.Tests.{eq-eqb, ne-eqb, le-leb, lt-leb, leb-false}
+use borrow.Author.Tests.{eq-eqb, ne-eqb, eqb-true, eqb-false, le-leb, lt-leb, leb-true, leb-false}
 use Rattle.trie.specs.Run.{Nodes, see, setNode, length-setNode, set-seen, set-over, set-swap, see-other}
 use Rattle.trie.specs.Insertion.{leaf, grown, withNext, lastChild, withTerm, find, childOf, linkLast, addChild, State, state}
 use Rattle.trie.specs.Insertion.{childMade, descendOn, Rooted, rooted, rootMade, rootGiven, rootNode, Ended, ended, finishOn}
@@ -270,6 +270,16 @@ module _ (cap : ℕ) (rs : List ℕ) (m : Nodes) (made at b : ℕ) where
   unfolding rootMade
   root-old z h = no-case _ _ (ne-eqb (getD rs at 0) 0 z) ∙ no-case _ _ (lt-leb made (getD rs at 0) h)
 
+  -- by what is asked of a root first
+  pub root-none : cond (eqb (getD rs at 0) 0) (leb cap made) (leb made (getD rs at 0)) ≡ true
+      → rootMade cap rs m made at b ≡ rooted rs (state m 0 made)
+  root-none h = go (eqb (getD rs at 0) 0) refl h
+    where
+      go : (c : Bool) → eqb (getD rs at 0) 0 ≡ c → cond c (leb cap made) (leb made (getD rs at 0)) ≡ true
+          → rootMade cap rs m made at b ≡ rooted rs (state m 0 made)
+      go true e q = root-full (eqb-true (getD rs at 0) 0 e) (leb-true cap made q)
+      go false e q = root-out (eqb-false (getD rs at 0) 0 e) (leb-true made (getD rs at 0) q)
+
   pub root-sound : 1 ≤ made → made ≤ cap → Sound cap (length m) (rootMade cap rs m made at b .st)
   unfolding rootMade
   root-sound p q = go (eqb (getD rs at 0) 0) (leb cap made) refl (leb made (getD rs at 0)) refl
@@ -284,6 +294,12 @@ module _ (cap : ℕ) (rs : List ℕ) (m : Nodes) (made at b : ℕ) where
           let z = leb-false cap made x in record { node-lt = omega arith; made-le = omega arith; len = length-setNode m made (leaf b) }
       go false e x true y = record { node-lt = p; made-le = q; len = refl }
       go false e x false y = record { node-lt = leb-false made (getD rs at 0) y; made-le = q; len = refl }
+
+pub root-room : (root cap made : ℕ) → cond (eqb root 0) (leb cap made) (leb made root) ≡ false → root ≡ 0 → made < cap
+root-room root cap made h z = leb-false cap made (sym (yes-case _ _ (eq-eqb root 0 z)) ∙ h)
+
+pub root-there : (root cap made : ℕ) → cond (eqb root 0) (leb cap made) (leb made root) ≡ false → (root ≡ 0 → ⊥) → root < made
+root-there root cap made h z = leb-false made root (sym (no-case _ _ (ne-eqb root 0 z)) ∙ h)
 
 -- the same by a fetch and a store of the node at the root, which is stored as it is where it stands
 pub root-is : (m m′ : Nodes) (rs : List ℕ) (found : Rooting) (n n′ : Node) (b : ℕ) → n ≡ see m (found .place .node)

@@ -10,7 +10,7 @@ use lib.Dec.{eqb→eq}
 use denote.Ref.{at-last}
 use denote.Struct.Laws as LL
 use Rattle.trie.specs.Run.{room}
-use Rattle.packing.specs.Nodes.{blocks}
+use Rattle.spec.specs.Load.{tableRoom}
 use Rattle.packing.specs.declared.Packed.{Packed}
 use Rattle.packing.proofs.Steps.{holds, fails}
 use Rattle.packing.proofs.Answered.{end-bounds, few, no-block, no-slot, all-put}
@@ -157,7 +157,7 @@ module _ {M : Type 1} (𝓤 : URA M) (H : Heap 𝓤) (A : Atoms 𝓤) (W : Given
         let p₆ = value usize ∷ [] in
         let t₆ : Bind p₆ = (tt, tt, tt, (fr .high, tt), (vint w64 (fr .high) ∷ [], tt)) in
         calls-of ! 𝓣 [] p₆ t₆ (size .makes (fr .high) _ is-high, tt) PackedT.the-row (λ z. k₆ (at p₆ t₆ z, tt))
-        (λ z. said1 𝓤 H A (few (blocks nt nu nb) (ef .1 .high-le) ee)) (λ z r ws. id⊢ 𝓤 _) refl
+        (λ z. said1 𝓤 H A (few (tableRoom nt nu nb) (ef .1 .high-le) ee)) (λ z r ws. id⊢ 𝓤 _) refl
         (and-then ! (part ! 8 1 refl refl refl) (no-more !)) (λ w₆ r _ _ is-r ew.
         takes ! 0 refl (packed .lawful .typed r _ is-r .0) $ returns ! (look ! 0 refl) $ leaves ! refl refl $
         let answer = all-put made end nt nu nb ee (nodes .now) (roots .now) (table .now) (zs .0) fr (ef .0) r (rs .0) (ts .0) (us .0) ew

@@ -1,7 +1,7 @@
 -- `packing::search::bad_word` meets its contract. The loop: bit j of bad says that the slot of a label before k is taken. Assumes
 -- nothing.
 use mathlib.Core.Path.{ap, _∙_}
-use Prim.Native.Nat.{ℕ, _-_, _≤_}
+use Prim.Native.Nat.{ℕ, _+_, _-_, _*_, _/_, _≤_}
 use native.Mathlib.Omega.{arith}
 use lib.ListN.{length, take}
 use lib.Bits.{bitXor, xor-lt}
@@ -75,7 +75,11 @@ moved-requires-2 : tie.Need-moved-requires-2 Inv-loop μ-loop
 moved-requires-2 c κs =
     let e = c .before .before .before .wide .ensures in
     let a = c .before .before .before .before .shared-slice-known4 .given 0 in
-    in-four _ _ _ (omega arith) (c .before .before .before .before .before .before .before .before .pre .1)
+    let s = c .before .before .before .before .before .before .before .before in
+    let u = s .pre .0 in
+    let b = s .pre .1 in
+    let q = in-four (s .args .i) (c .before .before .before .wide .result) (s .args .i / 4 * 4 + 4) (omega arith) (omega arith) in
+    omega arith
 
 returns-2 : tie.Need-returns-2 Inv-loop μ-loop
 returns-2 c = clash-base _ _ _ _ _ (c .before .before .before .before .wide .ensures) _ _ _ (c .before .loop-test .left)

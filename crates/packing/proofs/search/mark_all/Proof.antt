@@ -41,7 +41,7 @@ loop-less c = omega arith
 
 loop-again : tie.Need-loop-again Inv-loop μ-loop
 loop-again c =
-    let e = c .before .before .mark-slot .ensures in
+    let e = c .before .before .mark-slot .ensures .1 in
     let i = c .before .before .before .before .before .before .before .loop .inv in (
       ap length e ∙ length-mark _ _ ∙ i .0,
       sym (marks-on _ _ _ _ _ (c .before .before .before .before .before .before .loop-test .taken)

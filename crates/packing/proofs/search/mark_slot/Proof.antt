@@ -1,5 +1,10 @@
 -- `packing::search::mark_slot` meets its contract. Assumes nothing.
-use Rattle.laws.specs.Search.{mark}
+use mathlib.Core.Path.{_≡_, ap, _∙_}
+use mathlib.Core.List.{List}
+use Prim.Native.Nat.{ℕ, _/_}
+use lib.ListN.{getD, set}
+use lib.Bits.{bitOr}
+use Rattle.laws.specs.Search.{marked, mark, mark-is}
 use borrow.Author.Needs.{needs}
 use Rattle.packing.proofs.search.mark_slot.Statement.{statement}
 use Rattle.packing.proofs.search.mark_slot.Tie as tie
@@ -22,9 +27,14 @@ slice-write-marks c = search needs
 same-length : tie.Need-same-length
 same-length c = search needs
 
+-- what is stored is one mark more
 returns : tie.Need-returns
 unfolding mark
-returns c = cc
+returns c =
+    let a = c .before .before .before in
+    let more : set (a .args .marks .now) (a .args .s / 64) (bitOr (getD (a .args .marks .now) (a .args .s / 64) 0) (c .one-bit .result))
+    ≡ mark (a .args .marks .now) (a .args .s) = cc in
+    (λ t. ap (λ (M : List ℕ). marked M t) more ∙ mark-is (a .args .marks .now) (a .args .s) t (a .pre), more)
 
 pub mark-slot-spec : {M : Type 1} → statement M
 mark-slot-spec =

@@ -4,7 +4,7 @@ use Prim.Native.Nat.{_*_}
 use native.Mathlib.Omega.{arith}
 use Rattle.packing.specs.Search.{Below}
 use Rattle.packing.proofs.Steps.{start-in}
-use Rattle.packing.proofs.Chosen.{stands-full, stands-at}
+use Rattle.packing.proofs.Chosen.{sought, stands-full, stands-at}
 use borrow.Author.Needs.{needs}
 use Rattle.packing.proofs.search.place_labels.Statement.{statement}
 use Rattle.packing.proofs.search.place_labels.Tie as tie
@@ -48,11 +48,11 @@ same-length-3 c = search needs
 
 returns : tie.Need-returns
 returns c =
-    let p = c .before .before .before .before .before .before .before .before .before .before .before .before .before .before .before
-    .pre in (
-      (λ L xs q high el G. stands-full L xs q _ _ _ _ high _ G (p .0) _ el (p .2) _
-          (c .before .before .before .before .before .before .before .before .before .start-of .ensures) _ _ _
-          (c .before .before .before .before .before .before .place-one .ensures .0) (c .enum-told .given .1) _),
+    let placed = c .before .before .before .before .before .before in
+    let begun = placed .before .before .before in
+    let p = begun .before .before .before .before .before .before .pre in (
+      (λ L xs q high el G. stands-full L xs q _ _ _ _ _ (placed .place-one .ensures .0 L xs q el
+          (sought L xs q _ _ _ _ high _ G (p .0 .from-le) _ el (p .2) _ (begun .start-of .ensures))) (c .enum-told .given .1)),
       tt,
     )
 
@@ -63,7 +63,7 @@ remember-requires c κs =
     let low = p .0 .small in
     let b = subst (Below (c .before .before .before .before .before .before .before .before .before .before .before .before .before
     .before .before .before .before .args .end * 64)) (c .before .before .base .given .1)
-    (c .before .before .before .before .before .before .before .before .place-one .ensures .1) in
+    (c .before .before .before .before .before .before .before .before .place-one .ensures .1 .0) in
     (p .1, p .2, omega arith)
 
 same-length-4 : tie.Need-same-length-4
@@ -77,16 +77,15 @@ same-length-6 c = search needs
 
 returns-2 : tie.Need-returns-2
 returns-2 c =
-    let p = c .before .before .before .before .before .before .before .before .before .before .before .before .before .before .before
-    .before .before .before .before .before .pre in (
-      (λ L xs q high el G. stands-at L xs q _ _ _ _ high _ G (p .0) _ el (p .2) _
-          (c .before .before .before .before .before .before .before .before .before .before .before .before .before .before .start-of
-          .ensures) _ _ _ (c .before .before .before .before .before .before .before .before .before .before .before .place-one .ensures
-          .0) _
-          (c .before .before .before .before .before .base .given .1) (p .1) _ (c .before .before .remember .ensures)),
-      subst (Below (c .before .before .before .before .before .before .before .before .before .before .before .before .before .before
-          .before .before .before .before .before .before .args .end * 64)) (c .before .before .before .before .before .base .given .1)
-          (c .before .before .before .before .before .before .before .before .before .before .before .place-one .ensures .1),
+    let told = c .before .before .before .before .before in
+    let placed = told .before .before .before .before .before .before in
+    let begun = placed .before .before .before in
+    let a = begun .before .before .before .before .before .before in
+    let p = a .pre in (
+      (λ L xs q high el G. stands-at L xs q _ _ _ _ _ _ (placed .place-one .ensures .0 L xs q el
+          (sought L xs q _ _ _ _ high _ G (p .0 .from-le) _ el (p .2) _ (begun .start-of .ensures))) (told .base .given .1)
+          (λ eb. c .before .before .remember .ensures .0 L xs q el (G .small) eb (G .cursors))),
+      subst (Below (a .args .end * 64)) (told .base .given .1) (placed .place-one .ensures .1 .0),
     )
 
 pub place-labels-spec : {M : Type 1} → statement M

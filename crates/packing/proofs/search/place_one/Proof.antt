@@ -1,10 +1,12 @@
 -- `packing::search::place_one` meets its contract. Assumes nothing.
 use mathlib.Core.Path.{ap}
+use mathlib.Core.Logic.{inl, inr}
 use native.Mathlib.Omega.{arith}
 use lib.Bits.{bitXor}
 use Rattle.laws.specs.Xor.{xor-block-of}
 use Rattle.packing.specs.Search.{slotOn}
 use Rattle.packing.proofs.Steps.{place-full, place-at}
+use Rattle.packing.proofs.Chosen.{sought-past, sought-at}
 use borrow.Author.Needs.{needs}
 use Rattle.packing.proofs.search.place_one.Statement.{statement}
 use Rattle.packing.proofs.search.place_one.Tie as tie
@@ -23,7 +25,11 @@ same-length-2 c = search needs
 
 returns : tie.Need-returns
 unfolding slotOn
-returns c = (place-full _ _ _ _ _ _ (c .before .find-slot .ensures) (c .if1 .taken), tt)
+returns c =
+    let a = c .before .before .before .before .before .before .before in (
+      λ L xs p el S. inr (sought-past L xs p _ _ _ _ S (a .pre .0) _ el (a .pre .1) _ (c .before .find-slot .ensures) (c .if1 .taken)),
+      (tt, place-full _ _ _ _ _ _ (c .before .find-slot .ensures) (c .if1 .taken)),
+    )
 
 shared-slice-read-wide : tie.Need-shared-slice-read-wide
 shared-slice-read-wide c = search needs
@@ -63,18 +69,23 @@ same-length-4 c = search needs
 returns-2 : tie.Need-returns-2
 unfolding slotOn
 returns-2 c =
-    let e = c .before .before .before .before .before .before .before .before .wide .ensures in
-    let b = c .before .before .before .before .before .before .before .before .before .shared-slice-known2 .given 0 in
-    let q = xor-block-of (c .before .before .before .before .before .before .before .before .before .before .before .find-slot .result)
-    (c .before .before .before .before .before .before .before .before .wide .result) (omega arith) in
-    let l = c .before .before .before .before .before .before .before .before .before .before .if1 .left in
-    let four = c .before .before .before .before .before .before .before .before .before .before .before .before .before .before .before
-    .before .before .pre .0 .blocks in (
-      place-at _ _ _ _ _ _ (c .before .before .before .before .before .before .before .before .before .before .before .find-slot
-          .ensures) _ _ _ l (ap (bitXor (c .before .before .before .before .before .before .before .before .before .before .before
-          .find-slot .result)) e) (c .before .before .mark-all .ensures)
-          (c .before .before .before .before .before .before .mark-slot .ensures),
-      omega arith,
+    let marked = c .before .before .before .before .before .before in
+    let first = marked .before .before in
+    let tested = first .before .before in
+    let found = tested .before in
+    let a = found .before .before .before .before .before .before in
+    let e = first .wide .ensures in
+    let b = first .before .shared-slice-known2 .given 0 in
+    let q = xor-block-of (found .find-slot .result) (first .wide .result) (omega arith) in
+    let l = tested .if1 .left in
+    let four = a .pre .0 .blocks in (
+      (λ L xs p el S. inl (sought-at L xs p _ _ _ _ S (a .pre .0) _ el (a .pre .1) _ (found .find-slot .ensures) _ _ _ l
+          (ap (bitXor (found .find-slot .result)) e) (c .before .before .mark-all .ensures) (marked .mark-slot .ensures .1))),
+      (
+        omega arith,
+        place-at _ _ _ _ _ _ (found .find-slot .ensures) _ _ _ l (ap (bitXor (found .find-slot .result)) e)
+            (c .before .before .mark-all .ensures) (marked .mark-slot .ensures .1),
+      ),
     )
 
 pub place-one-spec : {M : Type 1} → statement M
