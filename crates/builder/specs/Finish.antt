@@ -4,7 +4,7 @@ use mathlib.Core.Logic.{inl, inr}
 use mathlib.Core.Bool.{Bool, true, false, cond}
 use mathlib.Core.Option.{Option, none, some}
 use mathlib.Core.List.{List, [], _∷_, _++_}
-use Prim.Native.Nat.{ℕ, zero, suc, _+_, _-_, _≤_, _<_}
+use Prim.Native.Nat.{ℕ, suc, _+_, _-_, _≤_, _<_}
 use native.Mathlib.Omega.{arith}
 use lib.IntN.{ℤ, pos}
 use lib.Dec.{leb}
@@ -15,7 +15,7 @@ use Rattle.spec.specs.Lists.{over, upFrom}
 use Rattle.spec.specs.Token.{Token, seen}
 use Rattle.trie.specs.Run.{Nodes}
 use Rattle.spec.specs.Layout.{tableWords}
-use Rattle.spec.specs.Memory.{memory, lengthBefore, singleList, offsetList}
+use Rattle.spec.specs.Memory.{memory, lengthBefore, offsetList}
 use Rattle.spec.specs.Load.{Room, tableRoom, nowhere, byte, Outcome, accepted, refused, missing, demanded, finish}
 use Rattle.laws.specs.Tests.{Tested, either}
 use Rattle.laws.specs.Reads.{offset-length}

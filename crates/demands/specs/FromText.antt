@@ -13,7 +13,7 @@ use Rattle.spec.specs.Memory.{Memory}
 use Rattle.spec.specs.Load.{tableRoom, accepted, LoadResult}
 use Rattle.rwkv_tokenizer.specs.Report.{LoadReported}
 use Rattle.demands.specs.Lent.{Plainly, replyOf, Calls, replyGiven, CallsByValue}
-use Rattle.demands.specs.TextIn.{Loads, states, TextIn, text-in-ids-out}
+use Rattle.demands.specs.TextIn.{Loads, states, text-in-ids-out}
 
 -- what the text states is accepted with the tokens ts, and over the memory left every list of calls on a fresh stream follows the plain
 -- stream of ts

@@ -16,9 +16,9 @@ use Rattle.spec.specs.Layout.{firstFrom}
 use Rattle.laws.specs.Tests.{either, or-l, or-r, any-append}
 use Rattle.laws.specs.Xor.{xor-cancel, xor-assoc, xor-block-of}
 use Rattle.laws.specs.First.{first-is, skip}
-use Rattle.laws.specs.Perm.{bit, bit-lt, bit-or, perm-bit}
+use Rattle.laws.specs.Perm.{bit, bit-lt, bit-or}
 use Rattle.laws.specs.Search.{marked, mark}
-use Rattle.packing.specs.Search.{movedWord, clashAt, badAt, ClashWord, BadWord, markAll}
+use Rattle.packing.specs.Search.{MovedWord, clashAt, badAt, ClashWord, BadWord, markAll}
 use Rattle.packing.proofs.Bitwise.{not-bit, tz-below, tz-at, tz-lt}
 
 -- ---- a word of candidates
@@ -28,10 +28,12 @@ pub in-four : (i d n : ℕ) → d < 256 → i / 4 * 4 + 4 ≤ n → bitXor i (d 
 in-four i d n h k = let e = xor-shr i (d / 64) 2 in let z : d / 64 / 4 ≡ 0 = omega arith in let q = ap (bitXor (i / 4)) z
     ∙ lib.Bits.xor-zero-r (i / 4) in omega arith
 
-pub moved-bit : (M : List ℕ) (i j d : ℕ) → j < 64 → eqb (bit (movedWord M i d) j) 1 ≡ marked M (bitXor (i * 64 + j) d)
-unfolding movedWord marked
-moved-bit M i j d h =
-    ap (λ (z : ℕ). eqb z 1) (perm-bit (getD M (bitXor i (d / 64)) 0) (d % 64) j (omega arith) h)
+-- a word permuted has the marks of the slots moved
+pub moved-word : (M : List ℕ) (i d w : ℕ)
+    → ((j : ℕ) → j < 64 → bit w j ≡ bit (getD M (bitXor i (d / 64)) 0) (bitXor j (d % 64))) → MovedWord M i d w
+unfolding marked
+moved-word M i d w bits j h =
+    ap (λ (z : ℕ). eqb z 1) (bits j h)
     ∙ sym (ap₂ (λ (x y : ℕ). eqb (bit (getD M x 0) y) 1) word place)
   where
     hi : (i * 64 + j) / 64 ≡ i
@@ -83,13 +85,13 @@ module _ (used : List ℕ) (l1 : ℕ) (ls : List ℕ) (i : ℕ) where
           ap₂ (λ (x y : ℕ). eqb (bit (getD used x 0) y) 1) x y
 
   -- one label more
-  pub clash-more : (k bad r : ℕ) → k < length ls → ClashWord used l1 (take k ls) i bad → r ≡ movedWord used i (bitXor l1 (getD ls k 0))
+  pub clash-more : (k bad r : ℕ) → k < length ls → ClashWord used l1 (take k ls) i bad → MovedWord used i (bitXor l1 (getD ls k 0)) r
       → ClashWord used l1 (take (k + 1) ls) i (bitOr bad r)
   unfolding clashAt any
   clash-more k bad r h v e j hj =
       let q : k + 1 ≡ suc k = omega arith in
       or-test bad r j
-      ∙ ap₂ _||_ (v j hj) (ap (λ (z : ℕ). eqb (bit z j) 1) e ∙ moved-bit used i j (bitXor l1 (getD ls k 0)) hj
+      ∙ ap₂ _||_ (v j hj) (e j hj
       ∙ ap (marked used) (sym (xor-assoc (i * 64 + j) l1 (getD ls k 0))))
       ∙ sym (ap (any (λ l. marked used (bitXor (bitXor (i * 64 + j) l1) l))) (ap (λ (z : ℕ). take z ls) q ∙ take-suc ls k 0 h)
       ∙ any-append (λ l. marked used (bitXor (bitXor (i * 64 + j) l1) l)) (take k ls) (getD ls k 0 ∷ [])
@@ -108,13 +110,13 @@ module _ (used : List ℕ) (l1 : ℕ) (ls : List ℕ) (i : ℕ) where
         ∙ any-append (λ l. marked used (bitXor (bitXor (i * 64 + j) l1) l)) (take k ls) (drop k ls) ∙ or-l _ _ yes)))
 
     -- the bases come last
-    pub clash-base : (k bad r : ℕ) → length ls ≤ k → ClashWord used l1 (take k ls) i bad → r ≡ movedWord bases i l1
+    pub clash-base : (k bad r : ℕ) → length ls ≤ k → ClashWord used l1 (take k ls) i bad → MovedWord bases i l1 r
         → BadWord used bases ls i (bitOr bad r)
     unfolding badAt
     clash-base k bad r h v e j hj =
         or-test bad r j
         ∙ ap₂ _||_ (v j hj ∙ ap (λ (l : List ℕ). clashAt used l1 l (i * 64 + j)) (take-all k ls h))
-        (ap (λ (z : ℕ). eqb (bit z j) 1) e ∙ moved-bit bases i j l1 hj)
+        (e j hj)
         ∙ or-comm (clashAt used l1 ls (i * 64 + j)) (marked bases (bitXor (i * 64 + j) l1))
         ∙ ap (λ (z : ℕ). marked bases (bitXor (i * 64 + j) z) || clashAt used z ls (i * 64 + j)) is
 

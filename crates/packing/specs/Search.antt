@@ -8,15 +8,14 @@ use lib.Bits.{bitXor}
 use lib.Dec.{eqb, leb, ltb}
 use Rattle.spec.specs.Lists.{any}
 use Rattle.spec.specs.Layout.{firstFrom}
-use Rattle.laws.specs.Perm.{bit, xorPerm}
+use Rattle.laws.specs.Perm.{bit}
 use Rattle.laws.specs.Search.{marked, mark}
 use Rattle.packing.specs.declared.Placed.{Placed}
 use Rattle.packing.specs.declared.Placed.the-variants.{At, Full}
 
--- the marks of word i with each slot moved by d
-unfoldable pub movedWord : List ℕ → ℕ → ℕ → ℕ
-unfolding xorPerm
-movedWord M i d = xorPerm (getD M (bitXor i (d / 64)) 0) (d % 64)
+-- bit j of w is the mark of slot (64 i + j) XOR d
+abbrev pub MovedWord : List ℕ → ℕ → ℕ → ℕ → Type 0
+MovedWord M i d w = (j : ℕ) → j < 64 → eqb (bit w j) 1 ≡ marked M (bitXor (i * 64 + j) d)
 
 -- some child's slot is taken, where the first label falls on slot s
 unfoldable pub clashAt : List ℕ → ℕ → List ℕ → ℕ → Bool

@@ -8,9 +8,9 @@ ghost use lib.ListN.{length};
 ghost use lib.Bits.{bitXor};
 ghost use Rattle.spec.specs.Layout.{Put, firstFrom, choose, put};
 ghost use Rattle.laws.specs.Nodes.{ByteLabels};
-ghost use Rattle.laws.specs.Perm.{bit, maybe, xorPerm};
+ghost use Rattle.laws.specs.Perm.{bit, maybe};
 ghost use Rattle.laws.specs.Search.{marked, mark};
-ghost use Rattle.packing.specs.Search.{movedWord, BadWord, badAt, markAll, Bounds};
+ghost use Rattle.packing.specs.Search.{MovedWord, BadWord, badAt, markAll, Bounds};
 ghost use Rattle.packing.specs.Search.{Placing, placeOn, Below, startOn, rememberOn, openOn};
 ghost use Rattle.packing.specs.Going.{CursorsOk, Going, Sought, MarkedOr, PlacedOr};
 use crate::Placed;
@@ -34,8 +34,7 @@ fn swap_if(word: u64, mask: u64, s: u64, d: usize) -> u64
 
 // Bit i of the result is bit i XOR d of the word, d from 0 to 63.
 pub fn xor_perm(word: u64, d: usize) -> u64
-    ensures bits { λ r. ⌜ (d < 64 → (i : ℕ) → i < 64 → bit r i ≡ bit word (bitXor i d)) ⌝ }
-    ensures same { λ r. ⌜ r ≡ xorPerm word d ⌝ }
+    ensures { λ r. ⌜ (d < 64 → (i : ℕ) → i < 64 → bit r i ≡ bit word (bitXor i d)) ⌝ }
 {
     let a = swap_if(word, 0x5555555555555555, 1, d);
     let b = swap_if(a, 0x3333333333333333, 2, d);
@@ -50,7 +49,7 @@ pub fn xor_perm(word: u64, d: usize) -> u64
 // The marks of word i with each slot moved by d: bit j is the mark of slot (64 i + j) XOR d.
 fn moved(marks: &[u64], i: usize, d: usize) -> u64
     requires { ⌜ bitXor i (d / 64) < length (now marks) ⌝ }
-    ensures { λ r. ⌜ r ≡ movedWord (now (marks .entry)) i d ⌝ }
+    ensures { λ r. ⌜ MovedWord (now (marks .entry)) i d r ⌝ }
 {
     let at = i ^ (d / 64);
     xor_perm(marks[at], d % 64)

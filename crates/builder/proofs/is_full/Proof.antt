@@ -1,6 +1,5 @@
 -- `builder::is_full` meets its contract. Assumes nothing.
-use mathlib.Core.Path.{subst, _∙_, sym}
-use mathlib.Core.Bool.{Bool, not}
+use mathlib.Core.Path.{subst}
 use Prim.Native.Nat.{ℕ, _<_}
 use lib.Dec.{ltb→lt, nltb→le}
 use Rattle.builder.specs.Grow.{admits-none}

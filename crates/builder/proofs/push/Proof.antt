@@ -1,5 +1,5 @@
 -- `builder::push` meets its contract: a walk of its MIR, by hand. Assumes nothing.
-use Rattle.walks.specs.Prelude.{refl, subst, ℕ, _≤_, _<_, Bool, not, List, [], _∷_, length, ℤ, Holds, URA, w16, w32, w64, Val, vint, only}
+use Rattle.walks.specs.Prelude.{refl, subst, ℕ, _≤_, _<_, List, [], _∷_, length, ℤ, URA, w16, w32, w64, Val, vint, only}
 use Rattle.walks.specs.Prelude.{ap, Is, SProp, id⊢, Memory, Routine, Heap, WpFn, Tables, Atoms, Fun, givenOf, tables, tablesOf, Given}
 use Rattle.walks.specs.Prelude.{_$_, !, by, look, lit, of-opd, and-then, no-more, bin, returns, returns-within, u8, u16, u32, u64, usize}
 use Rattle.walks.specs.Prelude.{i32, bool, slice-vals, Meets, tripleOf, atExit, entered, cited, Par, value, copied, viewed, lent, Lfs}
@@ -7,7 +7,7 @@ use Rattle.walks.specs.Prelude.{Shs, Dens, Vss, Ends, Plains, Known, spelled, f
 use Rattle.walks.specs.Prelude.{respell, Bind, at, calls-of, copies, leaves, told2, said1, said2, uint-plain, bool-plain, checks, ne-of}
 use Rattle.walks.specs.Prelude.{le-le, var, part, sets, takes}
 use denote.Struct.Laws as LL
-use lib.Dec.{ltb→lt, nltb→le, eqb→eq}
+use lib.Dec.{eqb→eq}
 use Rattle.spec.specs.Memory.{memory}
 use Rattle.laws.specs.Reads.{LongEnough}
 use Rattle.trie.specs.declared.Inserted.{Inserted}

@@ -1,11 +1,11 @@
 -- `packing::search::bad_word` meets its contract. The loop: bit j of bad says that the slot of a label before k is taken. Assumes
 -- nothing.
-use mathlib.Core.Path.{ap, _∙_}
+use mathlib.Core.Path.{subst}
 use Prim.Native.Nat.{ℕ, _+_, _-_, _*_, _/_, _≤_}
 use native.Mathlib.Omega.{arith}
 use lib.ListN.{length, take}
 use lib.Bits.{bitXor, xor-lt}
-use Rattle.packing.specs.Search.{movedWord, ClashWord}
+use Rattle.packing.specs.Search.{MovedWord, ClashWord}
 use Rattle.packing.proofs.Find.{in-four, clash-first, clash-more, clash-all, clash-base}
 use borrow.Author.Needs.{needs}
 use Rattle.packing.proofs.search.bad_word.Statement.{statement}
@@ -65,10 +65,11 @@ loop-again : tie.Need-loop-again Inv-loop μ-loop
 loop-again c = (
   omega arith,
   clash-more _ _ _ _ _ _ _ (c .before .before .before .before .loop-test .taken) (c .before .before .before .before .before .loop .inv .1)
-      (c .moved .ensures ∙ ap (λ (z : ℕ). movedWord
+      (subst (λ (z : ℕ). MovedWord
       (c .before .before .before .before .before .before .before .before .before .before .before .before .args .used .now)
       (c .before .before .before .before .before .before .before .before .before .before .before .before .args .i)
-      (bitXor (c .before .before .before .before .before .before .before .wide .result) z)) (c .before .wide2 .ensures)),
+      (bitXor (c .before .before .before .before .before .before .before .wide .result) z) (c .moved .result))
+      (c .before .wide2 .ensures) (c .moved .ensures)),
 )
 
 moved-requires-2 : tie.Need-moved-requires-2 Inv-loop μ-loop

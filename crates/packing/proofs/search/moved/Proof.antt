@@ -1,5 +1,6 @@
 -- `packing::search::moved` meets its contract. Assumes nothing.
-use Rattle.packing.specs.Search.{movedWord}
+use native.Mathlib.Omega.{arith}
+use Rattle.packing.proofs.Find.{moved-word}
 use borrow.Author.Needs.{needs}
 use Rattle.packing.proofs.search.moved.Statement.{statement}
 use Rattle.packing.proofs.search.moved.Tie as tie
@@ -14,8 +15,7 @@ xor-perm-requires : tie.Need-xor-perm-requires
 xor-perm-requires c κs = search needs
 
 returns : tie.Need-returns
-unfolding movedWord
-returns c = c .xor-perm .ensures .1
+returns c = moved-word _ _ _ _ (λ j h. c .xor-perm .ensures (omega arith) j h)
 
 pub moved-spec : {M : Type 1} → statement M
 moved-spec = tie.close (tie.spec mul-xor-perm shared-slice-read-xor-perm xor-perm-requires returns)

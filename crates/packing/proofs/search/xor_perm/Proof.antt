@@ -29,7 +29,7 @@ unfolding xorPerm
 returns c =
     let a = c .before .before .before .before .before .before .args in
     let e : c .swap-if6 .result ≡ xorPerm (a .word) (a .d) = cc in
-    ((λ d i h. ap (λ (z : ℕ). bit z i) e ∙ perm-bit (a .word) (a .d) i d h), e)
+    λ d i h. ap (λ (z : ℕ). bit z i) e ∙ perm-bit (a .word) (a .d) i d h
 
 pub xor-perm-spec : {M : Type 1} → statement M
 xor-perm-spec =
