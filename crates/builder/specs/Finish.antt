@@ -16,11 +16,11 @@ use Rattle.spec.specs.Token.{Token, seen}
 use Rattle.trie.specs.Run.{Nodes}
 use Rattle.spec.specs.Layout.{tableWords}
 use Rattle.spec.specs.Memory.{memory, lengthBefore, offsetList}
-use Rattle.spec.specs.Load.{Room, tableRoom, nowhere, byte, Outcome, accepted, refused, missing, demanded, finish}
+use Rattle.spec.specs.Load.{Room, nowhere, byte, Outcome, accepted, refused, missing, demanded, finish}
 use Rattle.laws.specs.Tests.{Tested, either}
 use Rattle.laws.specs.Reads.{offset-length}
 use Rattle.laws.specs.Spans.{before-all}
-use Rattle.packing.specs.Answer.{capacity, answerFor, PackedAs}
+use Rattle.packing.specs.Answer.{answerFor, PackedAs}
 use Rattle.packing.specs.declared.Packed.{Packed}
 use Rattle.packing.specs.declared.Packed.the-variants.{Words, NoRoom}
 use Rattle.builder.specs.Built.{Built, Kept, SingleOf, isTaken, setOffsets, missingOf, FinishedAs, finishedOf}
@@ -175,11 +175,6 @@ module _ (partial : Bool) (r : Room) where
       finished-as e most is (Words n) P long small eo f ef = subst As (sym ef)
           (finished-packs e most is (Words n) P n refl long small eo)
       finished-as e most is NoRoom P long small eo f ef = subst As (sym ef) (finished-full e most is NoRoom P refl)
-
--- the capacity that packing works with is the room that a load has
-pub capacity-room : (table used bases : ℕ) → tableRoom table used bases ≡ capacity table used bases
-unfolding tableRoom capacity
-capacity-room table used bases = refl
 
 -- cells past the fixed lengths, where offsets were written up to the last
 pub end-kept : {s : List ℤ} {os os′ rs rs′ : List ℕ} (previous total : ℕ) → previous < 65536 → os′ ≡ setOffsets os previous 65536 total

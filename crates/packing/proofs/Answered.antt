@@ -22,7 +22,7 @@ use Rattle.packing.proofs.Steps.{yes-case, no-case}
 use Rattle.packing.specs.Nodes.{nodeWrites, rootWord, rootWords}
 use Rattle.packing.proofs.Filled.{Based, nodes-are, table-padded, roots-over}
 use Rattle.packing.specs.Walk.{Through, Ended}
-use Rattle.packing.specs.Answer.{capacity, answerFor, PackedAs}
+use Rattle.packing.specs.Answer.{answerFor, PackedAs}
 use Rattle.packing.proofs.Walked.{ended-full, ended-open, through-based}
 use Rattle.packing.specs.declared.Packed.{Packed}
 use Rattle.packing.specs.declared.Packed.the-variants.{Words, NoRoom}
@@ -45,8 +45,8 @@ whole-blocks t u b end is U B eu eb z = record {
 }
 
 module _ (t u b end : ℕ) (is : end * 64 ≡ min (tableRoom t u b) (256 * 16777215)) where
-  end-zero : end ≡ 0 → capacity t u b ≡ 0
-  unfolding capacity
+  end-zero : end ≡ 0 → tableRoom t u b ≡ 0
+  unfolding tableRoom
   end-zero z = omega arith
 
   pub end-bounds : (U B : List ℕ) → length U ≡ u → length B ≡ b → (end ≡ 0 → ⊥) → Bounds U B 4 end
@@ -54,20 +54,20 @@ module _ (t u b end : ℕ) (is : end * 64 ≡ min (tableRoom t u b) (256 * 16777
   end-bounds U B eu eb z = whole-blocks t u b end (in-fours (min (t / 256) (min (u / 4) (b / 4))) 16777215 end is) U B eu eb z
 
   -- more blocks than 2^24 - 1 are never needed
-  end-past : (ts : List Token) → Valid ts → end * 64 < words (puts ts) → capacity t u b < tableWords ts
-  unfolding capacity tableWords words
+  end-past : (ts : List Token) → Valid ts → end * 64 < words (puts ts) → tableRoom t u b < tableWords ts
+  unfolding tableRoom tableWords words
   end-past ts v h = let s = small in omega arith
     where
       small : 256 * (1 + top (puts ts)) < 2 ^ 32
       small = tableWords-small ts v
 
-  end-room : end * 64 ≤ capacity t u b
-  unfolding capacity
+  end-room : end * 64 ≤ tableRoom t u b
+  unfolding tableRoom
   end-room = omega arith
 
-capacity-le : (t u b : ℕ) → capacity t u b ≤ t
-unfolding capacity
-capacity-le t u b = omega arith
+room-le : (t u b : ℕ) → tableRoom t u b ≤ t
+unfolding tableRoom
+room-le t u b = omega arith
 
 -- ---- the answer
 
@@ -128,14 +128,14 @@ few b h e = omega arith
 module _ (made end t u b : ℕ) (ee : end * 64 ≡ min (tableRoom t u b) (256 * 16777215)) (m : Nodes) (rs ta : List ℕ) where
   abbrev pub Answers : Packed → List ℕ → List ℕ → Type 0
   Answers r rs' ta' =
-      ((ts : List Token) → Valid ts → Stands ts rs m → made ≡ nodeCount ts → PackedAs ts (capacity t u b) rs ta r rs' ta')
+      ((ts : List Token) → Valid ts → Stands ts rs m → made ≡ nodeCount ts → PackedAs ts (tableRoom t u b) rs ta r rs' ta')
       × RootsKept rs rs'
 
   past : (r : Packed) → r ≡ NoRoom
-      → ((ts : List Token) → Valid ts → Stands ts rs m → made ≡ nodeCount ts → capacity t u b < tableWords ts) → Answers r rs ta
+      → ((ts : List Token) → Valid ts → Stands ts rs m → made ≡ nodeCount ts → tableRoom t u b < tableWords ts) → Answers r rs ta
   past r er h = (
-    (λ ts v S em. subst (λ (x : Packed). PackedAs ts (capacity t u b) rs ta x rs ta) (sym er)
-        (past-answer ts (capacity t u b) rs ta rs ta (h ts v S em))),
+    (λ ts v S em. subst (λ (x : Packed). PackedAs ts (tableRoom t u b) rs ta x rs ta) (sym er)
+        (past-answer ts (tableRoom t u b) rs ta rs ta (h ts v S em))),
     record { behind = refl },
   )
 
@@ -154,9 +154,9 @@ module _ (made end t u b : ℕ) (ee : end * 64 ≡ min (tableRoom t u b) (256 * 
         → 65536 ≤ length rs → tc ≡ replicate (length ta) 0 → ta' ≡ fold write tc (nodeWrites (see zs) made (made - 1) 1)
         → rs' ≡ rootWords (rootWord (see zs) made) rs → Answers r rs' ta'
     all-put r rs' tc ta' er y et hr ec etable eroots = (
-      (λ ts v S em. subst (λ (x : Packed). PackedAs ts (capacity t u b) rs ta x rs' ta') (sym er)
-          (fits-answer ts v (capacity t u b) made (256 * (1 + front .high)) rs m ta zs ta' rs' front end S em hr
-          (subst (λ (x : ℕ). capacity t u b ≤ x) et (capacity-le t u b)) (end-room t u b end ee) (ended-open (placed ts rs v S em) y) refl
+      (λ ts v S em. subst (λ (x : Packed). PackedAs ts (tableRoom t u b) rs ta x rs' ta') (sym er)
+          (fits-answer ts v (tableRoom t u b) made (256 * (1 + front .high)) rs m ta zs ta' rs' front end S em hr
+          (subst (λ (x : ℕ). tableRoom t u b ≤ x) et (room-le t u b)) (end-room t u b end ee) (ended-open (placed ts rs v S em) y) refl
           (etable ∙ ap (λ (x : List ℕ). fold write x (nodeWrites (see zs) made (made - 1) 1)) ec) eroots)),
       roots-behind (rootWord (see zs) made) rs rs' hr eroots,
     )

@@ -1,5 +1,5 @@
 -- What packing answers, and what it leaves. Document 01: "Table words are 256 × (1 + h)"; refusal 21, "table capacity below the layout's
--- words"; "table capacity is 256 × the most whole blocks that the table and both runs of marks each hold". Assumes nothing.
+-- words". Assumes nothing.
 use mathlib.Core.Path.{_≡_}
 use mathlib.Core.Bool.{cond}
 use mathlib.Core.List.{List}
@@ -9,15 +9,9 @@ use lib.ListN.{length}
 use Rattle.spec.specs.Lists.{over}
 use Rattle.spec.specs.Token.{Token}
 use Rattle.spec.specs.Layout.{tableWords}
-use Rattle.spec.specs.Load.{tableRoom}
 use Rattle.spec.specs.Memory.{padded, tableList, rootList}
 use Rattle.packing.specs.declared.Packed.{Packed}
 use Rattle.packing.specs.declared.Packed.the-variants.{Words, NoRoom}
-
--- the table capacity, by the lengths of the table and of both runs of marks
-unfoldable pub capacity : ℕ → ℕ → ℕ → ℕ
-unfolding tableRoom
-capacity table used bases = tableRoom table used bases
 
 -- the layout's words where they fit, else 21
 unfoldable pub answerFor : List Token → ℕ → Packed

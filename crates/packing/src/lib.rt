@@ -15,7 +15,7 @@ ghost use Rattle.packing.specs.Search.{Bounds, Below};
 ghost use Rattle.packing.specs.Going.{Going, PlacedOr};
 ghost use Rattle.packing.specs.Nodes.{keptIn, passedOn};
 ghost use Rattle.packing.specs.Walk.{Turn, Walked, Within, Ended};
-ghost use Rattle.packing.specs.Answer.{capacity, PackedAs};
+ghost use Rattle.packing.specs.Answer.{PackedAs};
 
 pub mod search;
 pub mod words;
@@ -286,7 +286,7 @@ pub fn pack(
 ) -> Packed
     requires { ⌜ (1 ≤ made) × (made ≤ room (now nodes)) × (65536 ≤ length (now roots)) ⌝ }
     ensures stands { λ r. ⌜ ((ts : List Token) → Valid ts → Stands ts (now (roots .entry)) (now (nodes .entry)) → made ≡ nodeCount ts
-        → PackedAs ts (capacity (length (now (table .entry))) (length (now (used .entry))) (length (now («used_bases» .entry))))
+        → PackedAs ts (tableRoom (length (now (table .entry))) (length (now (used .entry))) (length (now («used_bases» .entry))))
         (now (roots .entry)) (now (table .entry)) r (now (roots .exit)) (now (table .exit))) ⌝ }
     ensures kept { λ r. ⌜ RootsKept (now (roots .entry)) (now (roots .exit)) ⌝ }
 {

@@ -1,5 +1,5 @@
 -- `builder::finish` meets its contract: a walk of its MIR, by hand. Assumes nothing.
-use Rattle.walks.specs.Prelude.{_≡_, refl, sym, _∙_, ap, subst, ℕ, _≤_, _<_, Bool, not, List, [], _∷_, Holds, URA, w16, w32, Val, vint}
+use Rattle.walks.specs.Prelude.{_≡_, refl, sym, ap, subst, ℕ, _≤_, _<_, Bool, not, List, [], _∷_, Holds, URA, w16, w32, Val, vint}
 use Rattle.walks.specs.Prelude.{only, SProp, id⊢, Memory, Routine, Heap, WpFn, Tables, Atoms, Fun, givenOf, tables, tablesOf, Given, _$_}
 use Rattle.walks.specs.Prelude.{ !, by, look, and-then, no-more, returns, returns-within, u16, u32, u64, i32, bool, unit, slice-vals}
 use Rattle.walks.specs.Prelude.{Meets, tripleOf, atExit, entered, cited, Par, value, copied, lent, Lfs, Shs, Dens, Vss, Ends, Plains}
@@ -15,7 +15,7 @@ use Rattle.packing.proofs.Packed as PackedT
 use Rattle.packing.proofs.pack as pack
 use Rattle.builder.specs.declared.Finished.{Finished}
 use Rattle.builder.specs.Built.{FinishedAs}
-use Rattle.builder.specs.Finish.{single-of, finished-as, capacity-room, end-kept}
+use Rattle.builder.specs.Finish.{single-of, finished-as, end-kept}
 use Rattle.builder.proofs.Build as BuildT
 use Rattle.builder.proofs.Stop as StopT
 use Rattle.builder.proofs.Finished as FinishedT
@@ -144,7 +144,7 @@ module _ {M : Type 1} (𝓤 : URA M) (H : Heap 𝓤) (A : Atoms 𝓤) (W : Given
         (lists (os .0) (zs .1 .1 .0) (zs .1 .1 .1 .0) (zs .0) (zs .1 .1 .1 .1 .0) (zs .1 .1 .1 .1 .1 .0))
         (lo .0, (l .1 .0, (l .1 .1 .0, (l .0, l .1 .1 .1)))) (said2 𝓤 H A
         (λ blob most ts em B. finished-as partial most B (table .now) (os .0) (zs .1 .1 .0) (zs .1 .1 .1 .0) (goes .0) (goes .1 ts (single-of B)) _
-        (em ∙ capacity-room _ _ _) packed (ep .0 ts (B .valid) (B .stands) (B .made)) (pre .0 .offsets) (owed .0 .1) eo r er)
+        em packed (ep .0 ts (B .valid) (B .stands) (B .made)) (pre .0 .offsets) (owed .0 .1) eo r er)
         (end-kept (st .previous) (st .used) (owed .0 .1) eo (ep .1 .behind)))))))))))
 
 pub finish-spec : {M : Type 1} → f.Statement.statement M
