@@ -1,17 +1,15 @@
 -- What each branch of the code gives, as an equation of the definitions in Words. Assumes nothing.
-use mathlib.Core.Path.{_≡_, refl, sym, ap, ap₂, _∙_, subst}
+use mathlib.Core.Path.{_≡_, refl, sym, ap, _∙_, subst}
 use mathlib.Core.Logic.{_⊎_, inl, inr}
 use mathlib.Core.Bool.{Bool, true, false, not, cond}
 use mathlib.Core.List.{List}
-use Prim.Native.Nat.{ℕ, _+_, _-_, _*_, _/_, _≤_, _<_}
+use Prim.Native.Nat.{ℕ, _+_, _-_, _≤_, _<_}
 use native.Mathlib.Omega.{arith}
 use lib.Dec.{T, eqb, leb, ltb}
-use lib.ListN.{length, getD, set}
-use lib.Bits.{bitXor}
+use lib.ListN.{length, getD}
 use borrow.Author.Tests.{eq-eqb, ne-eqb, eqb-true, eqb-false, le-leb, lt-leb, lt-ltb, le-ltb, leb-true, ltb-true}
 use Rattle.laws.specs.First.{first-is}
-use Rattle.laws.specs.Search.{mark}
-use Rattle.packing.specs.Search.{Below, markAll, slotOn, placeOn, openOn, startOn, rememberOn}
+use Rattle.packing.specs.Search.{Below, openOn, startOn}
 use Rattle.packing.proofs.Find.{miss}
 use Rattle.packing.specs.declared.Placed.{Placed}
 use Rattle.packing.specs.declared.Placed.the-variants.{At, Full}
@@ -32,19 +30,6 @@ fails true h = absurd h
 fails false _ = refl
 
 -- ---- placing
-
-module _ (U B : List ℕ) (from end : ℕ) (ls : List ℕ) (s : ℕ) (is : s ≡ slotOn U B from end ls) where
-  pub place-full : end * 64 ≤ s → record { used = U; bases = B; answer = Full } ≡ placeOn U B from end ls
-  unfolding placeOn
-  place-full h = sym (yes-case _ _ (le-leb (end * 64) (slotOn U B from end ls) (subst (λ (x : ℕ). end * 64 ≤ x) is h)))
-
-  pub place-at : (b : ℕ) (U' B' : List ℕ) → s < end * 64 → b ≡ bitXor s (getD ls 0 0) → U' ≡ markAll b U ls → B' ≡ mark B b
-      → record { used = U'; bases = B'; answer = At b } ≡ placeOn U B from end ls
-  unfolding placeOn
-  place-at b U' B' h eb eu em =
-      ap₂ (λ (x y : List ℕ). record { used = x; bases = y; answer = At b }) eu em
-      ∙ ap (λ (z : ℕ). record { used = markAll z U ls; bases = mark B z; answer = At z }) (eb ∙ ap (λ (x : ℕ). bitXor x (getD ls 0 0)) is)
-      ∙ sym (no-case _ _ (lt-leb (end * 64) (slotOn U B from end ls) (subst (λ (x : ℕ). x < end * 64) is h)))
 
 pub below-le : (p : Placed) (a b : ℕ) → Below a p → a ≤ b → Below b p
 below-le (At x) a b h k = omega arith
@@ -104,16 +89,6 @@ start-in C ls from end h = go (start-cases C ls from end)
         → (from ≤ startOn C ls from end) × (startOn C ls from end ≤ end)
     go (inl e) = (omega arith, omega arith)
     go (inr e) = let a = e .1 in let b = e .2 in let d = e .3 in (omega arith, omega arith)
-
-module _ (C ls : List ℕ) (b : ℕ) where
-  pub remember-more : (length ls ≡ 1 → ⊥) → C ≡ rememberOn C ls b
-  unfolding rememberOn
-  remember-more h = sym (no-case _ _ (ne-eqb (length ls) 1 h))
-
-  pub remember-one : (l v : ℕ) → length ls ≡ 1 → l ≡ getD ls 0 0 → v ≡ bitXor b l / 64 → set C l v ≡ rememberOn C ls b
-  unfolding rememberOn
-  remember-one l v one e q =
-      ap (set C l) q ∙ ap (λ (z : ℕ). set C z (bitXor b z / 64)) e ∙ sym (yes-case _ _ (eq-eqb (length ls) 1 one))
 
 -- ---- the first word that is not full
 

@@ -2,8 +2,8 @@
 use mathlib.Core.Path.{_≡_}
 use mathlib.Core.Bool.{Bool, not, _||_, cond}
 use mathlib.Core.List.{List, [], _∷_}
-use Prim.Native.Nat.{ℕ, _+_, _-_, _*_, _/_, _%_, _^_, _≤_, _<_}
-use lib.ListN.{length, getD, set}
+use Prim.Native.Nat.{ℕ, _+_, _-_, _*_, _%_, _^_, _≤_, _<_}
+use lib.ListN.{length, getD}
 use lib.Bits.{bitXor}
 use lib.Dec.{eqb, leb, ltb}
 use Rattle.spec.specs.Lists.{any}
@@ -46,20 +46,6 @@ unfoldable pub slotOn : List ℕ → List ℕ → ℕ → ℕ → List ℕ → �
 unfolding firstFrom badAt
 slotOn U B from end ls = firstFrom (λ s. not (badAt U B ls s)) ((end - from) * 64) (from * 64)
 
--- both runs of marks, and the answer
-pub record Placing : Type 0 where
-  pub used : List ℕ
-  pub bases : List ℕ
-  pub answer : Placed
-
--- a node with the labels ls at that slot
-unfoldable pub placeOn : List ℕ → List ℕ → ℕ → ℕ → List ℕ → Placing
-unfolding slotOn markAll mark
-placeOn U B from end ls =
-    let b = bitXor (slotOn U B from end ls) (getD ls 0 0) in
-    cond (leb (end * 64) (slotOn U B from end ls)) (record { used = U; bases = B; answer = Full })
-    (record { used = markAll b U ls; bases = mark B b; answer = At b })
-
 -- a base is below n
 abbrev pub Below : ℕ → Placed → Type 0
 Below n (At b) = b < n
@@ -76,10 +62,6 @@ startOn C ls from end =
     cond (eqb (length ls) 1)
     (cond (ltb from (getD C (getD ls 0 0) 0)) (cond (leb (getD C (getD ls 0 0) 0) end) (getD C (getD ls 0 0) 0) from) from)
     from
-
--- the word of the slot, kept by label for nodes of one label
-unfoldable pub rememberOn : List ℕ → List ℕ → ℕ → List ℕ
-rememberOn C ls b = cond (eqb (length ls) 1) (set C (getD ls 0 0) (bitXor b (getD ls 0 0) / 64)) C
 
 -- What the search asks: words from `from` up to `end` are there in both runs of marks, in whole blocks of four, one at least, and
 -- every slot is a number of 32 bits.

@@ -11,7 +11,7 @@ ghost use Rattle.laws.specs.Nodes.{ByteLabels};
 ghost use Rattle.laws.specs.Perm.{bit, maybe};
 ghost use Rattle.laws.specs.Search.{marked, mark};
 ghost use Rattle.packing.specs.Search.{MovedWord, BadWord, badAt, markAll, Bounds};
-ghost use Rattle.packing.specs.Search.{Placing, placeOn, Below, startOn, rememberOn, openOn};
+ghost use Rattle.packing.specs.Search.{Below, startOn, openOn};
 ghost use Rattle.packing.specs.Going.{CursorsOk, Going, Sought, MarkedOr, PlacedOr};
 use crate::Placed;
 use crate::count;
@@ -128,8 +128,6 @@ fn place_one(used: &mut [u64], bases: &mut [u64], start: usize, end: usize, labe
         → Sought L xs p (now (used .entry)) (now (bases .entry)) start end
         → MarkedOr L xs p end (now (used .exit)) (now (bases .exit)) r) ⌝ }
     ensures small { λ r. ⌜ Below (end * 64) r ⌝ }
-    ensures level { λ r. ⌜ _≡_ {A = Placing} (record { used = now (used .exit); bases = now (bases .exit); answer = r })
-        (placeOn (now (used .entry)) (now (bases .entry)) start end (now (labels .entry))) ⌝ }
 {
     let s = find_slot(used, bases, start, end, labels);
     if end * 64 <= s {
@@ -180,9 +178,8 @@ fn start_of(cursors: &[u32], labels: &[u8], from: usize, end: usize) -> usize
 // A node was placed at base. If it has one label, its label's cursor is the word of its slot.
 fn remember(cursors: &mut [u32], labels: &[u8], base: usize)
     requires { ⌜ (256 ≤ length (now cursors)) × (1 ≤ length (now labels)) × (base < 2 ^ 32) ⌝ }
-    ensures stands { λ r. ⌜ ((L : List ℕ → List ℕ) (xs : List Put) (p : List ℕ) → now (labels .entry) ≡ L p → ByteLabels L
+    ensures { λ r. ⌜ ((L : List ℕ → List ℕ) (xs : List Put) (p : List ℕ) → now (labels .entry) ≡ L p → ByteLabels L
         → base ≡ choose L xs (L p) → CursorsOk L xs (now (cursors .entry)) → CursorsOk L (put L xs p) (now (cursors .exit))) ⌝ }
-    ensures level { λ r. ⌜ now (cursors .exit) ≡ rememberOn (now (cursors .entry)) (now (labels .entry)) base ⌝ }
 {
     if labels.len() != 1 {
         return;

@@ -63,7 +63,7 @@ remember-requires c κs =
     let low = p .0 .small in
     let b = subst (Below (c .before .before .before .before .before .before .before .before .before .before .before .before .before
     .before .before .before .before .args .end * 64)) (c .before .before .base .given .1)
-    (c .before .before .before .before .before .before .before .before .place-one .ensures .1 .0) in
+    (c .before .before .before .before .before .before .before .before .place-one .ensures .1) in
     (p .1, p .2, omega arith)
 
 same-length-4 : tie.Need-same-length-4
@@ -84,8 +84,8 @@ returns-2 c =
     let p = a .pre in (
       (λ L xs q high el G. stands-at L xs q _ _ _ _ _ _ (placed .place-one .ensures .0 L xs q el
           (sought L xs q _ _ _ _ high _ G (p .0 .from-le) _ el (p .2) _ (begun .start-of .ensures))) (told .base .given .1)
-          (λ eb. c .before .before .remember .ensures .0 L xs q el (G .small) eb (G .cursors))),
-      subst (Below (a .args .end * 64)) (told .base .given .1) (placed .place-one .ensures .1 .0),
+          (λ eb. c .before .before .remember .ensures L xs q el (G .small) eb (G .cursors))),
+      subst (Below (a .args .end * 64)) (told .base .given .1) (placed .place-one .ensures .1),
     )
 
 pub place-labels-spec : {M : Type 1} → statement M

@@ -5,7 +5,6 @@ use native.Mathlib.Omega.{arith}
 use lib.Bits.{bitXor}
 use Rattle.laws.specs.Xor.{xor-block-of}
 use Rattle.packing.specs.Search.{slotOn}
-use Rattle.packing.proofs.Steps.{place-full, place-at}
 use Rattle.packing.proofs.Chosen.{sought-past, sought-at}
 use borrow.Author.Needs.{needs}
 use Rattle.packing.proofs.search.place_one.Statement.{statement}
@@ -28,7 +27,7 @@ unfolding slotOn
 returns c =
     let a = c .before .before .before .before .before .before .before in (
       λ L xs p el S. inr (sought-past L xs p _ _ _ _ S (a .pre .0) _ el (a .pre .1) _ (c .before .find-slot .ensures) (c .if1 .taken)),
-      (tt, place-full _ _ _ _ _ _ (c .before .find-slot .ensures) (c .if1 .taken)),
+      tt,
     )
 
 shared-slice-read-wide : tie.Need-shared-slice-read-wide
@@ -81,11 +80,7 @@ returns-2 c =
     let four = a .pre .0 .blocks in (
       (λ L xs p el S. inl (sought-at L xs p _ _ _ _ S (a .pre .0) _ el (a .pre .1) _ (found .find-slot .ensures) _ _ _ l
           (ap (bitXor (found .find-slot .result)) e) (c .before .before .mark-all .ensures) (marked .mark-slot .ensures .1))),
-      (
-        omega arith,
-        place-at _ _ _ _ _ _ (found .find-slot .ensures) _ _ _ l (ap (bitXor (found .find-slot .result)) e)
-            (c .before .before .mark-all .ensures) (marked .mark-slot .ensures .1),
-      ),
+      omega arith,
     )
 
 pub place-one-spec : {M : Type 1} → statement M

@@ -1,17 +1,13 @@
 -- `packing::search::remember` meets its contract. Assumes nothing.
 use native.Mathlib.Omega.{arith}
 use lib.Bits.{xor-lt}
-use Rattle.packing.proofs.Steps.{remember-more, remember-one}
 use Rattle.packing.proofs.Chosen.{cursors-kept, cursors-set}
 use borrow.Author.Needs.{needs}
 use Rattle.packing.proofs.search.remember.Statement.{statement}
 use Rattle.packing.proofs.search.remember.Tie as tie
 
 returns : tie.Need-returns
-returns c = (
-  (λ L xs p el small eb K. cursors-kept L small xs p (c .before .before .before .args .cursors .now) K),
-  remember-more _ _ _ (c .if1 .taken),
-)
+returns c = λ L xs p el small eb K. cursors-kept L small xs p (c .before .before .before .args .cursors .now) K
 
 shared-slice-read-wide : tie.Need-shared-slice-read-wide
 shared-slice-read-wide c = search needs
@@ -45,11 +41,9 @@ same-length c = search needs
 returns-2 : tie.Need-returns-2
 returns-2 c =
     let a = c .before .before .before .before .before .before in
-    let one = c .before .before .before .if1 .left in (
-      (λ L xs p el small eb K. cursors-set L small xs p (a .args .cursors .now) K _ el one (a .pre .0) _ _ _ (c .before .wide .ensures) eb
-          (c .narrow .ensures)),
-      remember-one _ _ _ _ _ one (c .before .wide .ensures) (c .narrow .ensures),
-    )
+    let one = c .before .before .before .if1 .left in
+    λ L xs p el small eb K. cursors-set L small xs p (a .args .cursors .now) K _ el one (a .pre .0) _ _ _ (c .before .wide .ensures) eb
+    (c .narrow .ensures)
 
 pub remember-spec : {M : Type 1} → statement M
 remember-spec =
