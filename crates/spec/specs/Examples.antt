@@ -22,8 +22,8 @@ use Rattle.spec.specs.Scan.{done, failed, scanAt, scan, waiting, runAt, 
 use Rattle.spec.specs.Memory.{Memory, tooShort, padded, memoryOf, singleList, offsetList, blobBytes, rootList, tableList}
 use Rattle.spec.specs.Encode.{encodeOn}
 use Rattle.spec.specs.Decode.{decodeOn}
-use Rattle.spec.specs.Load.{tableRoom, idRule, lengthRule, readToken, readFields, readLine, admit, lastId, takeLine, nowhere, accepted}
-use Rattle.spec.specs.Load.{missing, finish, takeLines, load, countsOf, settled, loadOn}
+use Rattle.spec.specs.Load.{tableRoom, idRule, lengthRule, readToken, readFields, readLine, admit, lastId, takeLine, nowhere}
+use Rattle.spec.specs.Load.{accepted, missing, finish, takeLines, load, countsOf, settled, loadOn}
 use Rattle.spec.specs.Answer.{whole}
 use Rattle.spec.specs.Stream.{openPhase, endedPhase, holding, stoppedAt, fresh, add, end, callOn}
 

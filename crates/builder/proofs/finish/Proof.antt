@@ -143,8 +143,8 @@ module _ {M : Type 1} (𝓤 : URA M) (H : Heap 𝓤) (A : Atoms 𝓤) (W : Given
         by ! (ends-with 𝓤 H A W ps pl κs qs a vss FinishedT.the-row (finished 𝓤 H A W) Ens u′ r is″
         (lists (os .0) (zs .1 .1 .0) (zs .1 .1 .1 .0) (zs .0) (zs .1 .1 .1 .1 .0) (zs .1 .1 .1 .1 .1 .0))
         (lo .0, (l .1 .0, (l .1 .1 .0, (l .0, l .1 .1 .1)))) (said2 𝓤 H A
-        (λ blob most ts em B. finished-as partial most B (table .now) (os .0) (zs .1 .1 .0) (zs .1 .1 .1 .0) (goes .0) (goes .1 ts (single-of B)) _
-        em packed (ep .0 ts (B .valid) (B .stands) (B .made)) (pre .0 .offsets) (owed .0 .1) eo r er)
+        (λ blob most ts em B. finished-as partial most B (table .now) (os .0) (zs .1 .1 .0) (zs .1 .1 .1 .0) (goes .0)
+        (goes .1 ts (single-of B)) _ em packed (ep .0 ts (B .valid) (B .stands) (B .made)) (pre .0 .offsets) (owed .0 .1) eo r er)
         (end-kept (st .previous) (st .used) (owed .0 .1) eo (ep .1 .behind)))))))))))
 
 pub finish-spec : {M : Type 1} → f.Statement.statement M

@@ -28,7 +28,10 @@ returns-2 c = (
 returns-3 : tie.Need-returns-3
 returns-3 c = (
   (λ most ts os bl rs ns tb os′ rs′ tb′ B y. absurd y),
-  λ n. (c .before .before .before .if1 .left, λ ts S. sym (c .before .before .demanded-byte .ensures ts S) ∙ ap missingOf (c .enum-told .given .1)),
+  λ n. (
+    c .before .before .before .if1 .left,
+    λ ts S. sym (c .before .before .demanded-byte .ensures ts S) ∙ ap missingOf (c .enum-told .given .1),
+  ),
 )
 
 pub stop-of-spec : {M : Type 1} → statement M
