@@ -27,7 +27,7 @@ module _ {G : Type 0} (left : G → Stream) (Says : Called → Call → G → Ty
   Made m s (c ∷ cs) [] = ⊥
   Made m s (c ∷ cs) (g ∷ gs) = Says (callOn m (recordOf s) c) c g × Made m (left g) cs gs
 
--- over the memory m, every list of calls on a stream that is fresh at first follows the plain stream of the tokens ts
+-- every list of calls on a stream that is fresh at first, made as MadeOn says, follows the plain stream of the tokens ts
 module _ {G : Type 0} (reply : G → Reply) (MadeOn : Stream → List Call → List G → Type 0) where
   abbrev pub Plainly : List Token → Type 0
   Plainly ts = (s : Stream) → recordOf s ≡ fresh → (cs : List Call) → BytePieces cs → (gs : List G) → MadeOn s cs gs
