@@ -1,6 +1,6 @@
 // For programs that run cases of standard input: bytes in hexadecimal and the ids that they spell, and how answers are written.
 use libc::STDOUT_FILENO;
-use literal::Number;
+use numbers::Number;
 ghost use Prim.Native.Nat.{_≤_};
 ghost use lib.ListN.{length};
 
@@ -12,20 +12,12 @@ pub fn write_number(n: u64) {
     io::print_decimal(STDOUT_FILENO, n);
 }
 
-fn wide(b: u8) -> u64 {
-    b as u64
-}
-
-fn wide_id(n: u32) -> u64 {
-    n as u64
-}
-
 // Bytes in hexadecimal, in brackets.
 pub fn write_bytes(bytes: &[u8]) {
     write(b"[");
     let mut i = 0;
     while i < bytes.len() {
-        io::print_hex(STDOUT_FILENO, wide(bytes[i]), 2);
+        io::print_hex(STDOUT_FILENO, cells::u8_to_u64(bytes[i]), 2);
         i += 1;
     }
     write(b"]");
@@ -39,17 +31,17 @@ pub fn write_ids(ids: &[u32], count: usize) {
             return;
         }
         write(b" ");
-        write_number(wide_id(ids[i]));
+        write_number(cells::u32_to_u64(ids[i]));
         i += 1;
     }
 }
 
 // The byte that two hexadecimal digits spell, 0 if they do not.
 fn byte_of(high: u8, low: u8) -> u8 {
-    let Number::Value(h) = literal::hex_digit(high) else {
+    let Number::Value(h) = numbers::hex_digit(high) else {
         return 0;
     };
-    let Number::Value(l) = literal::hex_digit(low) else {
+    let Number::Value(l) = numbers::hex_digit(low) else {
         return 0;
     };
     (h % 16 * 16 + l % 16) as u8

@@ -1,2 +1,3 @@
 -- What the proofs of this crate share, and what callers of a fill or a copy may cite.
 pub mod Runs
+pub mod Pasted

@@ -1,7 +1,7 @@
 // Runs of cells and widths of numbers, for every crate: a number in another width, one value in a run of cells, bytes from one slice to
 // another.
 ghost use mathlib.Core.Path.{_≡_};
-ghost use Prim.Native.Nat.{_+_, _^_, _≤_, _<_, min, max};
+ghost use Prim.Native.Nat.{_+_, _-_, _^_, _≤_, _<_, min, max};
 ghost use lib.IntN.{pos, negsuc};
 ghost use lib.ListN.{length, drop, replicate};
 ghost use lib.Seq.{sets, paste};
@@ -50,6 +50,12 @@ pub fn u32_to_usize(x: u32) -> usize
     x as usize
 }
 
+pub fn u64_to_usize(x: u64) -> usize
+    ensures { λ r. ⌜ r ≡ x ⌝ }
+{
+    x as usize
+}
+
 pub fn usize_to_u32(x: usize) -> u32
     requires { ⌜ x < 2 ^ 32 ⌝ }
     ensures { λ r. ⌜ r ≡ x ⌝ }
@@ -57,7 +63,14 @@ pub fn usize_to_u32(x: usize) -> u32
     x as u32
 }
 
-// ---- the larger and the smaller of two
+// ---- the number before, the larger and the smaller of two
+
+pub fn one_less(x: u32) -> u32
+    requires { ⌜ 0 < x ⌝ }
+    ensures { λ r. ⌜ r ≡ x - 1 ⌝ }
+{
+    x - 1
+}
 
 pub fn larger(a: usize, b: usize) -> usize
     ensures { λ r. ⌜ r ≡ max a b ⌝ }

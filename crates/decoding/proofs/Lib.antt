@@ -1,5 +1,5 @@
 -- Laws that the proofs share.
-pub mod Paste
-pub mod Decode
-pub mod Text
-pub mod Reading
+pub mod SpanLaws
+pub mod TokenCopies
+pub mod DecodePasses
+pub mod DecodeText

@@ -3,4 +3,3 @@ pub mod Answers
 pub mod Span
 pub mod Copy
 pub mod Measured
-pub mod Lossy

@@ -1,23 +1,9 @@
-// Copies from one slice to another: byte by byte, eight at a time, and a token, which may go past its own end where later tokens
-// will stand.
+// Copies from one slice to another: eight bytes at a time, and a token, which may go past its own end where later tokens will stand.
 ghost use mathlib.Core.Path.{_≡_};
-ghost use mathlib.Core.List.{_++_};
 ghost use Prim.Native.Nat.{_+_, _-_, _<_, _≤_};
 ghost use lib.ListN.{length, take, drop};
 ghost use lib.Seq.{paste};
 ghost use Rattle.decoding.specs.Copy.{Placed};
-
-// len bytes, one by one.
-pub fn copy_bytes(src: &[u8], start: usize, len: usize, dst: &mut [u8], at: usize)
-    requires { ⌜ (start + len ≤ length (now src)) × (at + len ≤ length (now dst)) ⌝ }
-    ensures { λ r. ⌜ now (dst .exit) ≡ paste (now (dst .entry)) at (drop start (now (src .entry))) len ⌝ }
-{
-    let mut k: usize = 0;
-    while k < len {
-        dst[at + k] = src[start + k];
-        k += 1;
-    }
-}
 
 // Eight bytes. The loads come before the stores, so that the compiler makes one of each.
 fn copy8(src: &[u8], start: usize, dst: &mut [u8], at: usize)
@@ -69,5 +55,5 @@ pub fn copy_token(src: &[u8], start: usize, len: usize, dst: &mut [u8], at: usiz
             return;
         }
     }
-    copy_bytes(src, start, len, dst, at);
+    cells::copy(src, start, len, dst, at);
 }

@@ -1,16 +1,15 @@
-// Decoding ids on any vocabulary memory: the lookup of a token, decoding to bytes, to text and to lossy text.
+// Decoding ids on any vocabulary memory: the lookup of a token, decoding to bytes and to text.
 ghost use mathlib.Core.Path.{_≡_};
 ghost use Prim.Native.Nat.{_+_, _-_, _<_, _≤_};
 ghost use lib.ListN.{length, take, getD};
 ghost use Rattle.spec.specs.Lists.{each, over};
 ghost use Rattle.spec.specs.Memory.{memory};
-ghost use Rattle.spec.specs.Decode.{lookup as lookupOf, decodeOn, decodeTextOn, decodeLossyOn};
+ghost use Rattle.spec.specs.Decode.{lookup as lookupOf, decodeOn, decodeTextOn};
 ghost use Rattle.decoding.specs.Answers.{answerOf, takenOf, Answered};
 ghost use Rattle.decoding.specs.Span.{spanOf, spanBytes};
 ghost use Rattle.decoding.specs.Measured.{tokens, Joined, Measured};
 
 mod copy;
-mod lossy;
 
 // Where the bytes of an id's token stand in the blob, or that the id has none.
 pub enum Span {
@@ -86,13 +85,13 @@ fn measure(offsets: &[u32], blob: &[u8], ids: &[u32], room: usize) -> Decoded
 }
 
 // Where a token's bytes stand in the blob.
-struct Part {
-    start: usize,
-    len: usize,
+pub struct Part {
+    pub start: usize,
+    pub len: usize,
 }
 
 // The span of an id that is known to have one, without the lookup's tests.
-fn part_of(offsets: &[u32], id: u32) -> Part
+pub fn part_of(offsets: &[u32], id: u32) -> Part
     requires { ⌜ (id + 1 < length (now offsets)) × (getD (now offsets) id 0 ≤ getD (now offsets) (id + 1) 0) ⌝ }
     ensures { λ r. ⌜ (r .start ≡ getD (now (offsets .entry)) id 0)
         × (r .len ≡ getD (now (offsets .entry)) (id + 1) 0 - getD (now (offsets .entry)) id 0) ⌝ }
@@ -209,39 +208,4 @@ pub fn decode_utf8(
         return answer;
     };
     Decoded::NotUtf8 { len, offset }
-}
-
-// Lossy text. Every id is looked up and the text measured before anything is written.
-pub fn decode_lossy(
-    single: &[i32],
-    offsets: &[u32],
-    blob: &[u8],
-    roots: &[u64],
-    table: &[u64],
-    ids: &[u32],
-    out: &mut [u8],
-) -> Decoded
-    ensures { λ r. ⌜ Answered (decodeLossyOn
-        (memory (now (single .entry)) (now (offsets .entry)) (now (blob .entry)) (now (roots .entry)) (now (table .entry)))
-        (length (now (out .entry))) (now (ids .entry))) r (now (out .entry)) (now (out .exit)) ⌝ }
-{
-    if memory::too_short(single, offsets, roots) {
-        return Decoded::ShortMemory;
-    }
-    let index = lossy::first_absent(offsets, blob, ids);
-    if index < ids.len() {
-        return Decoded::Absent {
-            len: 0,
-            index,
-            id: ids[index],
-        };
-    }
-    let lossy::Size::Fits(len) = lossy::size_text(offsets, blob, ids, out.len()) else {
-        return Decoded::Full {
-            len: 0,
-            index: ids.len(),
-        };
-    };
-    lossy::write_text(offsets, blob, ids, out);
-    Decoded::Whole { len }
 }

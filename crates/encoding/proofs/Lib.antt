@@ -1,4 +1,2 @@
--- What the proofs of several functions use, on lists.
-pub mod Walking
-pub mod Row
-pub mod Encoding
+-- What the proof of encoding uses, on lists.
+pub mod EncodeTurns

@@ -41,7 +41,7 @@ fn decode(kind: u8, offsets: &[u32], blob: &[u8], ids: &[u32], out: &mut [u8]) -
     if kind == b'X' {
         return decoding::decode_utf8(&single, offsets, blob, &roots, &[], ids, out);
     }
-    decoding::decode_lossy(&single, offsets, blob, &roots, &[], ids, out)
+    lossy::decode_lossy(&single, offsets, blob, &roots, &[], ids, out)
 }
 
 // Its answer, and every cell of the output: `.` where nothing was written.
@@ -88,12 +88,6 @@ fn decode_over(memory: u8, kind: u8, ids: &[u32], out: &mut [u8]) {
     }
 }
 
-fn count(b: u8) -> usize
-    ensures { λ r. ⌜ r ≤ 255 ⌝ }
-{
-    b as usize
-}
-
 // A byte for the memory, one for the cells of output, and the ids.
 pub fn decode_case(kind: u8, case: &[u8]) {
     if case.len() < 2 {
@@ -102,5 +96,10 @@ pub fn decode_case(kind: u8, case: &[u8]) {
     let mut ids = [0u32; 16];
     let n = read_ids(&case[2..], &mut ids);
     let mut out = [b'.'; 256];
-    decode_over(case[0], kind, &ids[..n], &mut out[..count(case[1])]);
+    decode_over(
+        case[0],
+        kind,
+        &ids[..n],
+        &mut out[..cells::u8_to_usize(case[1])],
+    );
 }

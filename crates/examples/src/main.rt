@@ -10,7 +10,7 @@ use libc::STDIN_FILENO;
 use line::Fields;
 use line::NextLine;
 use literal::Literal;
-use literal::Number;
+use numbers::Number;
 
 mod decode;
 mod runs;
@@ -30,7 +30,7 @@ fn literal_case(text: &[u8]) {
 
 // A number, or the refusal of one that is bad.
 fn number_case(text: &[u8], limit: u64, refusal: u64) {
-    match literal::digits(text, limit) {
+    match numbers::digits(text, limit) {
         Number::Value(v) => write_number(v),
         Number::Bad => {
             write(b"refused ");

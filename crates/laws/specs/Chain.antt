@@ -13,7 +13,7 @@ use Rattle.spec.specs.Trie.{labels}
 use Rattle.laws.specs.Tests.{Tested, either, no-true}
 use Rattle.laws.specs.Nodes.{label-node}
 use Rattle.laws.specs.Numbered.{place-of, number, at-place, place-stays, place-new, Fresh, fresh-map, labels-fresh}
-use Rattle.laws.specs.Grow.{labels-snoc, label-self, snoc-inj, label-other}
+use Rattle.laws.specs.OneMore.{labels-snoc, label-self, snoc-inj, label-other}
 
 -- the numbers of p's children, in order
 unfoldable pub kids : List (List ℕ) → List ℕ → List ℕ

@@ -24,7 +24,7 @@ use Rattle.laws.specs.Tokens.{byte-at}
 use Rattle.laws.specs.Nodes.{cut-all, node-is, token-node, node-cut, label-node, node-label}
 use Rattle.laws.specs.Step.{Holds, Unheld, base-cases, placed, held-child, base-pos, word-pos}
 use Rattle.laws.specs.Reads.{root-at, root-length}
-use Rattle.laws.specs.Walk.{Reached, node-long, root-word, walk-cases}
+use Rattle.laws.specs.WalkLaws.{Reached, node-long, root-word, walk-cases}
 
 -- ---- one byte: its row of roots
 

@@ -1,9 +1,12 @@
--- The mathematics of the packed trie, in the order in which to read it.
+-- The laws of the definitions, in the order in which to read them: text first, then the packed trie, then the stream.
+pub mod Utf8Laws
+pub mod LineWalk
+pub mod LiteralLaws
 pub mod Tests
 pub mod Tokens
 pub mod Nodes
 pub mod Numbered
-pub mod Grow
+pub mod OneMore
 pub mod Chain
 pub mod Xor
 pub mod First
@@ -13,12 +16,13 @@ pub mod Step
 pub mod Listed
 pub mod Fill
 pub mod Perm
-pub mod Search
+pub mod MarkLaws
 pub mod Bounds
 pub mod Reads
-pub mod Walk
+pub mod WalkLaws
 pub mod Matching
 pub mod Deciding
 pub mod Spans
 pub mod Decoding
 pub mod Encoding
+pub mod StreamLaws

@@ -22,7 +22,7 @@ use Rattle.laws.specs.Tests.{Tested, either}
 use Rattle.laws.specs.Tokens.{TokenOf, id-cases, id-pos, id-low}
 use Rattle.laws.specs.Nodes.{Cut, cut-length, node-is, token-node}
 use Rattle.laws.specs.Reads.{single-at}
-use Rattle.laws.specs.Walk.{Passed, passed-start, passed-more, Reached, walk-cases}
+use Rattle.laws.specs.WalkLaws.{Passed, passed-start, passed-more, Reached, walk-cases}
 
 -- ---- what the walk found
 

@@ -14,6 +14,13 @@ use Rattle.spec.specs.Lists.{any, keep, each, same, has, byteIn}
 
 -- ---- Booleans
 
+-- a choice by a test whose outcome is known
+pub yes-case : {A : Type 0} (a b : A) {c : Bool} → c ≡ true → cond c a b ≡ a
+yes-case a b e = ap (λ (d : Bool). cond d a b) e
+
+pub no-case : {A : Type 0} (a b : A) {c : Bool} → c ≡ false → cond c a b ≡ b
+no-case a b e = ap (λ (d : Bool). cond d a b) e
+
 pub clash : {b : Bool} → b ≡ true → b ≡ false → ⊥
 clash p q = true≢false (sym p ∙ q)
 

@@ -1,4 +1,5 @@
--- Laws that the proofs of this crate cite.
-pub mod Walk
+-- Laws that the proofs of this crate cite, and for callers of `next_line` what a walk over a text by it gives.
+pub mod LinesLeft
+pub mod LineTurns
 pub mod Spaces
 pub mod Parts

@@ -5,6 +5,7 @@ use Prim.Native.Nat.{ℕ, suc, _+_, _<_}
 use lib.ListN.{length}
 use Rattle.spec.specs.Check.{Check, pass, refuse}
 use Rattle.spec.specs.Line
+use Rattle.laws.specs.LineWalk.{First}
 use Rattle.line.specs.declared.NextLine.{NextLine}
 use Rattle.line.specs.declared.NextLine.the-variants as NextLine
 use Rattle.line.specs.declared.Space.{Space}
@@ -17,7 +18,7 @@ use Rattle.line.specs.declared.Length.{Length}
 use Rattle.line.specs.declared.Length.the-variants as Length
 
 -- the first line of what stands behind the first `from` bytes of a text, as places in the text
-abbrev pub lineAt : ℕ → Option Line.First → NextLine
+abbrev pub lineAt : ℕ → Option First → NextLine
 lineAt from none = NextLine.Nothing
 lineAt from (some f) = NextLine.Line (from + f .size) (from + f .next)
 

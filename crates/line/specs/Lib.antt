@@ -1,3 +1,2 @@
--- What the answers of this crate mean, and what a walk over a text by them gives.
+-- What the answers of this crate mean.
 pub mod Answers
-pub mod Walk

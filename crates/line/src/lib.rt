@@ -5,7 +5,8 @@ ghost use Prim.Native.Nat.{_+_, _-_, _≤_};
 ghost use lib.ListN.{length, take, drop};
 ghost use Rattle.spec.specs.Check.{pass, given};
 ghost use Rattle.spec.specs.Digits.{digits};
-ghost use Rattle.spec.specs.Line.{lessCR, beforeLF, nextLine, firstSpace, lastSpace, fields};
+ghost use Rattle.spec.specs.Line.{lessCR, firstSpace, lastSpace, fields};
+ghost use Rattle.laws.specs.LineWalk.{beforeLF, nextLine};
 ghost use Rattle.line.specs.Answers.{lineAt, spaceOf, fieldsOf, Within, idOf, lengthOf};
 
 // A line of a text, up to `end`, and where the next one starts; or that there is none.
@@ -108,7 +109,7 @@ pub fn split_fields(line: &[u8]) -> Fields
     ensures means { λ r. ⌜ fieldsOf (now (line .entry)) r ≡ fields (now (line .entry)) ⌝ }
     ensures within { λ r. ⌜ Within (now (line .entry)) r ⌝ }
 {
-    if utf8::is_blank(line) {
+    if characters::is_blank(line) {
         return Fields::Blank;
     }
     let Space::At(first) = first_space(line) else {
@@ -139,7 +140,7 @@ pub enum Id {
 pub fn read_id(part: &[u8]) -> Id
     ensures { λ r. ⌜ idOf r ≡ given 6 (digits 4294967295 (now (part .entry))) pass ⌝ }
 {
-    let literal::Number::Value(v) = literal::digits(part, 4294967295) else {
+    let numbers::Number::Value(v) = numbers::digits(part, 4294967295) else {
         return Id::Bad;
     };
     Id::Value(v as u32)
@@ -155,7 +156,7 @@ pub enum Length {
 pub fn read_length(part: &[u8]) -> Length
     ensures { λ r. ⌜ lengthOf r ≡ given 11 (digits 18446744073709551615 (now (part .entry))) pass ⌝ }
 {
-    let literal::Number::Value(v) = literal::digits(part, 18446744073709551615) else {
+    let numbers::Number::Value(v) = numbers::digits(part, 18446744073709551615) else {
         return Length::Bad;
     };
     Length::Value(v)

@@ -1,4 +1,2 @@
 -- Laws that the proofs of this crate cite.
-pub mod Numbers
-pub mod Escapes
-pub mod Reading
+pub mod QuotedTurns

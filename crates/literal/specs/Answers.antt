@@ -1,30 +1,14 @@
--- What each answer of the crate `literal` means, case by case. Assumes nothing.
+-- What the answers of a literal's reader mean, case by case. Assumes nothing.
 use mathlib.Core.Option.{Option, none, some}
 use mathlib.Core.Bool.{cond}
-use mathlib.Core.List.{List, [], _∷_}
+use mathlib.Core.List.{List}
 use Prim.Native.Nat.{ℕ, _+_}
 use lib.ListN.{length, take}
 use lib.Seq.{sets}
-use Rattle.literal.specs.declared.Number.{Number}
-use Rattle.literal.specs.declared.Number.the-variants.{Value, Bad}
-use Rattle.literal.specs.declared.Piece.{Piece}
-use Rattle.literal.specs.declared.Piece.the-variants as Piece
-use Rattle.spec.specs.Literal.{Read, Piece as PieceAt}
+use Rattle.spec.specs.Literal.{Read}
 use Rattle.literal.specs.declared.Literal.{Literal}
 use Rattle.literal.specs.declared.Literal.the-variants as Literal
 use Rattle.spec.specs.Lists.{over}
-use Rattle.spec.specs.Utf8.{utf8Of}
-
--- a number, or none
-abbrev pub numberOf : Number → Option ℕ
-numberOf (Value v) = some v
-numberOf Bad = none
-
--- what stands at a place inside the quotes, or none
-abbrev pub pieceOf : Piece → Option PieceAt
-pieceOf (Piece.Byte b n) = some (record { bytes = b ∷ []; more = n })
-pieceOf (Piece.Point c n) = some (record { bytes = utf8Of c; more = n })
-pieceOf Piece.Bad = none
 
 -- the length of a literal's bytes, or none
 abbrev pub lengthOf : Literal → Option ℕ

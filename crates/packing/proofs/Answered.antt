@@ -15,18 +15,18 @@ use Rattle.spec.specs.Load.{tableRoom}
 use Rattle.spec.specs.Valid.{Valid}
 use Rattle.laws.specs.Bounds.{tableWords-small}
 use Rattle.laws.specs.Fill.{write}
-use Rattle.trie.specs.Run.{Nodes, see}
-use Rattle.trie.specs.Stands.{RootsKept, Stands}
-use Rattle.packing.specs.Search.{Bounds}
-use Rattle.packing.proofs.Steps.{yes-case, no-case}
-use Rattle.packing.specs.Nodes.{nodeWrites, rootWord, rootWords}
-use Rattle.packing.proofs.Filled.{Based, nodes-are, table-padded, roots-over}
-use Rattle.packing.specs.Walk.{Through, Ended}
-use Rattle.packing.specs.Answer.{answerFor, PackedAs}
+use Rattle.nodes.specs.Run.{Nodes, see}
+use Rattle.nodes.specs.Stands.{RootsKept, Stands}
+use Rattle.slots.specs.Marks.{Bounds}
+use Rattle.laws.specs.Tests.{yes-case, no-case}
+use Rattle.words.specs.NodeWords.{nodeWrites, rootWord, rootWords}
+use Rattle.words.proofs.Filled.{Based, nodes-are, table-padded, roots-over}
+use Rattle.packing.specs.PlaceWalk.{Through, Ended}
+use Rattle.words.specs.LayoutAnswer.{answerFor, PackedAs}
 use Rattle.packing.proofs.Walked.{ended-full, ended-open, through-based}
-use Rattle.packing.specs.declared.Packed.{Packed}
-use Rattle.packing.specs.declared.Packed.the-variants.{Words, NoRoom}
-use Rattle.packing.specs.declared.Front.{Front}
+use Rattle.words.specs.declared.Packed.{Packed}
+use Rattle.words.specs.declared.Packed.the-variants.{Words, NoRoom}
+use Rattle.slots.specs.declared.Front.{Front}
 
 -- ---- the words of marks that are searched
 

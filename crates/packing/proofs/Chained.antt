@@ -1,6 +1,6 @@
 -- The loop along the chain: what holds before each turn, what each way to leave it gives, and what the whole gives. Assumes nothing.
-use mathlib.Core.Path.{_≡_, sym, ap, subst}
-use mathlib.Core.Bool.{false, not}
+use mathlib.Core.Path.{_≡_, refl, sym, ap, subst}
+use mathlib.Core.Bool.{Bool, true, false, not}
 use mathlib.Core.List.{List}
 use Prim.Native.Nat.{ℕ, suc, _+_, _-_, _*_, _≤_}
 use native.Mathlib.Omega.{arith}
@@ -10,15 +10,24 @@ use Rattle.spec.specs.Token.{Token, idOf}
 use Rattle.spec.specs.Trie.{nodes, nodeCount}
 use Rattle.spec.specs.Layout.{Put, puts}
 use Rattle.spec.specs.Valid.{Valid}
-use Rattle.trie.specs.Run.{Nodes, see}
-use Rattle.trie.specs.Stands.{Stands}
-use Rattle.trie.specs.Queue.{Ordered}
-use Rattle.trie.specs.declared.Node.{Node}
-use Rattle.packing.specs.Search.{Bounds}
-use Rattle.packing.specs.Walk.{Amid, Turn, Walked, Within, Ended}
-use Rattle.packing.proofs.Steps.{holds, fails}
+use Rattle.nodes.specs.Run.{Nodes, see}
+use Rattle.nodes.specs.Stands.{Stands}
+use Rattle.nodes.specs.Queue.{Ordered}
+use Rattle.nodes.specs.declared.Node.{Node}
+use Rattle.slots.specs.Marks.{Bounds}
+use Rattle.packing.specs.PlaceWalk.{Amid, Turn, Walked, Ended}
+use Rattle.slots.specs.Going.{Within}
 use Rattle.packing.proofs.Walked.{at-zero, no-fuel, past-made, full-ends, open-goes, begin}
-use Rattle.packing.specs.declared.Front.{Front}
+use Rattle.slots.specs.declared.Front.{Front}
+
+-- what a flag that is tested says
+pub holds : (b : Bool) → T b → b ≡ true
+holds true _ = refl
+holds false h = absurd h
+
+pub fails : (b : Bool) → T (not b) → b ≡ false
+fails true h = absurd h
+fails false _ = refl
 
 pub bounds-now : {U B U₀ B₀ : List ℕ} {from end : ℕ} {at : Front} → Bounds U₀ B₀ from end → Within at end → length U ≡ length U₀
     → length B ≡ length B₀ → Bounds U B (at .from) end

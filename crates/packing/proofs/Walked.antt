@@ -1,7 +1,7 @@
 -- The walk along the chain: each node takes the definitions' choice, until none is ahead or the capacity is too small. Assumes nothing.
 use mathlib.Core.Path.{_≡_, refl, sym, ap, _∙_, subst}
 use mathlib.Core.Logic.{_⊎_, inl, inr}
-use mathlib.Core.Bool.{true, false, not}
+use mathlib.Core.Bool.{true, false}
 use mathlib.Core.List.{List, [], _∷_, List·Memᴰ as Mem, List·Memᴰ·head as here, List·Memᴰ·tail as there}
 use Prim.Native.Nat.{ℕ, zero, suc, _+_, _-_, _*_, _/_, _%_, _≤_, _<_}
 use native.Mathlib.Omega.{arith}
@@ -13,28 +13,34 @@ use Rattle.spec.specs.Trie.{nodes, nodeCount, labels, order}
 use Rattle.spec.specs.Layout.{Put, used, taken, top, words, choose, put, place, puts}
 use Rattle.spec.specs.Valid.{Valid}
 use Rattle.laws.specs.Tests.{clash}
-use Rattle.laws.specs.First.{from-most}
 use Rattle.laws.specs.Nodes.{ByteLabels, labels-small, order-find}
 use Rattle.laws.specs.Numbered.{number}
 use Rattle.laws.specs.Perm.{bit}
-use Rattle.laws.specs.Search.{marked}
-use Rattle.trie.specs.Run.{Nodes, room, see, setNode, set-seen}
-use Rattle.trie.specs.Tails.{setTail}
-use Rattle.trie.specs.Stands.{Tree}
-use Rattle.trie.specs.Gather.{Gathered, gathered-take}
-use Rattle.trie.specs.declared.Node.{Node}
-use Rattle.trie.specs.Chains.{number-lt}
-use Rattle.trie.specs.Queue.{Queued, Ordered, queue-on, queue-step, queue-end, queue-short}
-use Rattle.packing.specs.Search.{Below, Bounds, openOn}
-use Rattle.packing.proofs.Find.{bit-of-zero}
-use Rattle.packing.specs.Going.{Going, FrontOk, PlacedAt, PlacedOr}
-use Rattle.packing.specs.Walk.{Amid, Through, Short, Ended, Within, Turn}
-use Rattle.packing.proofs.Chosen.{front-then}
-use Rattle.packing.specs.Nodes.{keptIn, keptOn, passedOn}
-use Rattle.packing.proofs.Filled.{Based}
-use Rattle.packing.specs.declared.Placed.{Placed}
-use Rattle.packing.specs.declared.Placed.the-variants.{At, Full}
-use Rattle.packing.specs.declared.Front.{Front}
+use Rattle.laws.specs.MarkLaws.{marked}
+use Rattle.nodes.specs.Run.{Nodes, room, see, setNode}
+use Rattle.nodes.proofs.NodeRun.{set-seen}
+use Rattle.nodes.specs.Insertion.{setTail}
+use Rattle.nodes.specs.Stands.{Tree}
+use Rattle.nodes.specs.Gather.{Gathered}
+use Rattle.nodes.proofs.Gathering.{gathered-take}
+use Rattle.nodes.specs.declared.Node.{Node}
+use Rattle.nodes.proofs.Chains.{number-lt}
+use Rattle.nodes.specs.Queue.{Queued, Ordered}
+use Rattle.nodes.proofs.Queueing.{queue-on, queue-step, queue-end, queue-short}
+use Rattle.slots.specs.Marks.{Below, Bounds}
+use Rattle.slots.proofs.Find.{bit-of-zero}
+use Rattle.slots.specs.Going.{Going, PlacedAt, PlacedOr, Within, passedOn}
+use Rattle.packing.specs.PlaceWalk.{Amid, Through, Short, Ended, Turn, keptIn}
+use Rattle.slots.proofs.Onward.{going-on, still-open, now-full, passed-within}
+use Rattle.words.proofs.Filled.{Based}
+use Rattle.slots.specs.declared.Placed.{Placed}
+use Rattle.slots.specs.declared.Placed.the-variants.{At, Full}
+use Rattle.slots.specs.declared.Front.{Front}
+
+-- the nodes, one of them with the base that it was given
+abbrev pub keptOn : Nodes → ℕ → Placed → Nodes
+keptOn m node (At b) = setTail m node b
+keptOn m node Full = m
 
 -- ---- words only grow
 
@@ -125,31 +131,20 @@ module _ (ps : List (List ℕ)) (I : List ℕ → ℕ) (goal : List Put) (m : No
             (sym (em ∙ ap (keptOn m node) (P .answer)))
             (queue-step queue-now b fit);
         some = λ q mq. A .some q (subst (Mem q) (sym (N .split)) (there mq));
-        going = record {
-          small = A .going .small;
-          front = subst (λ (y : Front). FrontOk (labels ps) (put (labels ps) (A .xs) p) (y .from) (y .high) end) (sym ea')
-              (front-then (labels ps) (A .xs) p U' B' (at .from) (at .high) end b (A .going .front) (P .marks) (bounds .from-le)
-              (bounds .blocks) refl
-              (subst (Below (end * 64)) (P .answer) low));
-          marks = P .marks;
-          cursors = P .cursors;
-        };
+        going = going-on (labels ps) (A .xs) p U' at at' end r ea P (A .going) low (bounds .from-le) (bounds .blocks);
         left = left-now;
         few = (let a = A .few in let s = ap length (N .split) in omega arith);
-        not-full = ap (λ (y : Front). y .full) ea';
+        not-full = still-open (labels ps) (A .xs) p U' at at' end r ea P;
       }
         where
           b : ℕ
           b = choose (labels ps) (A .xs) (labels ps p)
 
-          ea' : at' ≡ passedOn U' at end (At b)
-          ea' = ea ∙ ap (passedOn U' at end) (P .answer)
-
       pub after : PlacedOr (labels ps) (A .xs) p end U' B' C' r → Below (end * 64) r
           → Amid ps I goal m' U' B' C' (see m node .tail) (fuel - 1) at' end ⊎ Short goal at' end
       after (inl P) low = inl (placed-on P low)
       after (inr P) low = inr (record {
-        full = ap (λ (y : Front). y .full) (ea ∙ ap (passedOn U' at end) (P .answer));
+        full = now-full (labels ps) (A .xs) p U' at at' end r ea (P .answer);
         past = (let a = P .past in
             let b = words-fold (labels ps) (N .others) (put (labels ps) (A .xs) p) in
             let e = ap words left-now in
@@ -166,16 +161,6 @@ module _ {ps : List (List ℕ)} {I : List ℕ → ℕ} {goal : List Put} {m : No
       → Amid ps I goal m U B C k fuel at end
   open-goes (inl A) e q = subst (λ (z : ℕ). Amid ps I goal m U B C z fuel at end) q A
   open-goes (inr S) e q = absurd (clash (S .full) e)
-
-pub passed-within : (U : List ℕ) (at : Front) (end : ℕ) (p : Placed) → at .from ≤ end → at .high * 4 + 4 ≤ end → end % 4 ≡ 0
-    → Below (end * 64) p
-    → Within (passedOn U at end p) end
-unfolding openOn
-passed-within U at end (At b) f h four k = record {
-  from-le = (let t = from-most (λ i. not (eqb (getD U i 0) 0xffffffffffffffff)) (end - at .from) (at .from) in omega arith);
-  high-le = omega arith;
-}
-passed-within U at end Full f h four k = record { from-le = f; high-le = h }
 
 kept-stored : (m : Nodes) (node : ℕ) (p : Placed) → setNode m node (keptIn (see m node) p) ≡ keptOn m node p
 unfolding setTail

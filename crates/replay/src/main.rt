@@ -12,41 +12,21 @@ use cases::write;
 use cases::write_number;
 use libc::STDIN_FILENO;
 use line::NextLine;
-use trie::Node;
+use nodes::Node;
 ghost use Prim.Native.Nat.{_≤_, _<_};
 ghost use lib.ListN.{length};
 ghost use Rattle.spec.specs.Memory.{memory};
 ghost use Rattle.spec.specs.Load.{tableRoom};
-ghost use Rattle.rwkv_tokenizer.specs.Report.{LoadReported};
-
-fn least(a: usize, b: usize) -> usize
-    ensures { λ r. ⌜ (r ≤ a) × (r ≤ b) ⌝ }
-{
-    if a < b { a } else { b }
-}
+ghost use Rattle.reports.specs.Report.{LoadReported};
 
 // The byte at a place, 0 past the end.
 fn one(case: &[u8], i: usize) -> usize
     ensures { λ r. ⌜ r < 256 ⌝ }
 {
     if i < case.len() {
-        return number_of(case[i]);
+        return cells::u8_to_usize(case[i]);
     }
     0
-}
-
-fn number_of(b: u8) -> usize
-    ensures { λ r. ⌜ r < 256 ⌝ }
-{
-    b as usize
-}
-
-fn wide(n: u32) -> u64 {
-    n as u64
-}
-
-fn size(n: u64) -> usize {
-    n as usize
 }
 
 // A number of the report.
@@ -57,7 +37,7 @@ fn write_next(n: u64) {
 
 // The refusal's number, and the report.
 fn write_report(number: u32, count: u64, place: u64, value: u64) {
-    write_number(wide(number));
+    write_number(cells::u32_to_u64(number));
     write_next(count);
     write_next(place);
     write_next(value);
@@ -185,11 +165,11 @@ fn load_case(
     roots: &mut [u64],
     table: &mut [u64],
 ) -> u32 {
-    let text = least(7, case.len());
-    let room = least(256 * one(case, 1) + one(case, 2), 4096);
-    let blob_room = least(256 * one(case, 3) + one(case, 4), blob.len());
-    let words = least(256 * one(case, 5), table.len());
-    let blocks = least(one(case, 6), 16);
+    let text = cells::smaller(7, case.len());
+    let room = cells::smaller(256 * one(case, 1) + one(case, 2), 4096);
+    let blob_room = cells::smaller(256 * one(case, 3) + one(case, 4), blob.len());
+    let words = cells::smaller(256 * one(case, 5), table.len());
+    let blocks = cells::smaller(one(case, 6), 16);
     load_all(
         &case[text..],
         one(case, 0) == 1,
@@ -213,8 +193,8 @@ fn encode_case(
     ids: &mut [u32],
 ) -> u32 {
     let mut report = [0u64; 3];
-    let room = least(one(case, 0), ids.len());
-    let start = least(1, case.len());
+    let room = cells::smaller(one(case, 0), ids.len());
+    let start = cells::smaller(1, case.len());
     let number = rwkv_tokenizer::rwkv_encode(
         single,
         offsets,
@@ -226,7 +206,7 @@ fn encode_case(
         &mut report,
     );
     write_report(number, report[0], report[1], report[2]);
-    cases::write_ids(ids, size(report[0]));
+    cases::write_ids(ids, cells::u64_to_usize(report[0]));
     number
 }
 
@@ -278,9 +258,9 @@ fn decode_case(
     out: &mut [u8],
 ) -> u32 {
     let mut report = [0u64; 3];
-    let start = least(1, case.len());
+    let start = cells::smaller(1, case.len());
     let count = cases::read_ids(&case[start..], ids);
-    let room = least(one(case, 0), out.len());
+    let room = cells::smaller(one(case, 0), out.len());
     let number = decode(
         kind,
         single,
@@ -294,7 +274,7 @@ fn decode_case(
     );
     write_report(number, report[0], report[1], report[2]);
     write(b" ");
-    let made = least(size(report[0]), out.len());
+    let made = cells::smaller(cells::u64_to_usize(report[0]), out.len());
     cases::write_bytes(&out[..made]);
     number
 }
@@ -356,7 +336,7 @@ fn one_case(
         return 0;
     }
     let n = cases::unhex(&case[2..], bytes);
-    let start = least(1, n);
+    let start = cells::smaller(1, n);
     let short = one(bytes, 0);
     let few_single = part(single.len(), short, 1);
     let few_offsets = part(offsets.len(), short, 2);

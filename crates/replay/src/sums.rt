@@ -16,29 +16,21 @@ fn of_words(words: &[u64], start: u64) -> u64 {
     sum
 }
 
-fn wide(n: u32) -> u64 {
-    n as u64
-}
-
 fn of_numbers(numbers: &[u32], start: u64) -> u64 {
     let mut sum = start;
     let mut i = 0;
     while i < numbers.len() {
-        sum = mixed(sum, wide(numbers[i]));
+        sum = mixed(sum, cells::u32_to_u64(numbers[i]));
         i += 1;
     }
     sum
-}
-
-fn wide_byte(n: u8) -> u64 {
-    n as u64
 }
 
 fn of_bytes(bytes: &[u8], start: u64) -> u64 {
     let mut sum = start;
     let mut i = 0;
     while i < bytes.len() {
-        sum = mixed(sum, wide_byte(bytes[i]));
+        sum = mixed(sum, cells::u8_to_u64(bytes[i]));
         i += 1;
     }
     sum

@@ -1,3 +1,2 @@
--- What the proofs of several lent calls use.
-mod Leaving
+-- What the walks of the lent calls share.
 mod Rows

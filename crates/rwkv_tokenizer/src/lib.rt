@@ -4,7 +4,6 @@ mod decode;
 mod encode;
 mod lent;
 mod load;
-mod report;
 
 pub use decode::rwkv_decode;
 pub use decode::rwkv_decode_lossy;

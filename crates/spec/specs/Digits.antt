@@ -1,12 +1,9 @@
--- Numbers in decimal and in hexadecimal digits. A byte string is a list of numbers. What a proof cites of them comes after the
--- definitions. Assumes nothing.
-use mathlib.Core.Path.{_≡_, refl, subst}
-use mathlib.Core.Bool.{Bool, true, false, _&&_, cond}
-use mathlib.Core.Option.{Option, none, some, bind, Option·none-ne-some, Option·some-injective}
+-- Numbers in decimal and in hexadecimal digits. A byte string is a list of numbers. Assumes nothing.
+use mathlib.Core.Bool.{cond}
+use mathlib.Core.Option.{Option, none, some, bind}
 use mathlib.Core.List.{List, [], _∷_}
-use Prim.Native.Nat.{ℕ, zero, suc, _+_, _*_, _-_, _≤_}
+use Prim.Native.Nat.{ℕ, zero, suc, _+_, _*_, _-_}
 use lib.Dec.{leb}
-use borrow.Author.Tests.{leb-true}
 use Rattle.spec.specs.Utf8.{_to_, within}
 
 -- ── Decimal ──────────────────────────────────────────────────────────
@@ -50,23 +47,3 @@ hexAfter v (suc n) (b ∷ s) = bind (hexDigit b) (λ d. hexAfter (v * 16 + d) n 
 -- the value of a run of n hexadecimal digits at the start of s
 abbrev pub hexRun : ℕ → List ℕ → Option ℕ
 hexRun n s = hexAfter 0 n s
-
--- ── What holds of them ───────────────────────────────────────────────
-
-atMost-le : (limit v w : ℕ) → atMost limit v ≡ some w → w ≤ limit
-unfolding atMost
-atMost-le limit v w e = go (leb v limit) refl e
-  where
-    go : (c : Bool) → leb v limit ≡ c → cond c (some v) none ≡ some w → w ≤ limit
-    go true h e = subst (λ (z : ℕ). z ≤ limit) (Option·some-injective v w e) (leb-true v limit h)
-    go false h e = absurd (Option·none-ne-some w e)
-
--- a number is at most its limit
-pub digits-le : (limit : ℕ) (s : List ℕ) (v : ℕ) → digits limit s ≡ some v → v ≤ limit
-unfolding digits
-digits-le limit [] v e = absurd (Option·none-ne-some v e)
-digits-le limit (b ∷ s) v e = go (digitsAfter 0 (b ∷ s)) e
-  where
-    go : (o : Option ℕ) → bind o (atMost limit) ≡ some v → v ≤ limit
-    go none e = absurd (Option·none-ne-some v e)
-    go (some w) e = atMost-le limit w v e

@@ -19,5 +19,3 @@ pub mod Stream
 pub mod Plain
 pub mod Load
 pub mod Theorems
-pub mod Examples
-pub mod OtherMemory

@@ -1,11 +1,10 @@
 -- Literals: document 01, "Literals". A literal is read byte by byte; an escape is one step that says which bytes it stands for and
 -- how far it reaches. The set of escapes is a parameter of the reading: `escape` is the one that the base fixes. Assumes nothing.
-use mathlib.Core.Path.{_≡_, refl}
-use mathlib.Core.Bool.{Bool, true, false, not, _&&_, _||_, cond}
-use mathlib.Core.Option.{Option, none, some, bind, Option·none-ne-some, Option·some-injective}
+use mathlib.Core.Bool.{Bool, true, false, _&&_, _||_, cond}
+use mathlib.Core.Option.{Option, none, some, bind}
 use mathlib.Core.List.{List, [], _∷_, _++_}
 use Prim.Native.Nat.{ℕ, zero, suc, _+_, _-_}
-use lib.Dec.{eqb, leb, ltb}
+use lib.Dec.{eqb, leb}
 use lib.ListN.{length, take, drop, getD}
 use Rattle.spec.specs.Utf8.{_to_, within, utf8Of}
 use Rattle.spec.specs.Digits.{hexAfter, hexRun}
@@ -141,29 +140,3 @@ read s = readWith escape s
 unfoldable pub literal : List ℕ → Option (List ℕ)
 unfolding read
 literal s = whole (read s)
-
--- What a good literal stands for is what was read of it.
-pub literal-read : (s bs : List ℕ) → literal s ≡ some bs → (read s) .bytes ≡ bs
-unfolding literal
-literal-read s bs e = go ((read s) .good) e
-  where
-    go : (c : Bool) → cond c (some ((read s) .bytes)) none ≡ some bs → (read s) .bytes ≡ bs
-    go true q = Option·some-injective ((read s) .bytes) bs q
-    go false q = absurd (Option·none-ne-some bs q)
-
--- ── Document 01's other examples (the starred ones stand in Examples) ─
-
--- `'\ud800'` is bad
-surrogate-bad : literal (0x27 ∷ 0x5C ∷ 0x75 ∷ 0x64 ∷ 0x38 ∷ 0x30 ∷ 0x30 ∷ 0x27 ∷ []) ≡ none
-unfolding literal
-surrogate-bad = refl
-
--- `b'\u0041'` is bad
-u-in-bytes-bad : literal (0x62 ∷ 0x27 ∷ 0x5C ∷ 0x75 ∷ 0x30 ∷ 0x30 ∷ 0x34 ∷ 0x31 ∷ 0x27 ∷ []) ≡ none
-unfolding literal
-u-in-bytes-bad = refl
-
--- `'a\'` is bad
-open-escape-bad : literal (0x27 ∷ 0x61 ∷ 0x5C ∷ 0x27 ∷ []) ≡ none
-unfolding literal
-open-escape-bad = refl

@@ -15,13 +15,14 @@ use Rattle.spec.specs.Scan.{waiting, stuck, Run}
 use Rattle.spec.specs.Memory.{Memory}
 use Rattle.spec.specs.Match.{undecidedOn}
 use Rattle.spec.specs.Stream.{holding, stoppedAt, runOn}
-use Rattle.stream.specs.declared.Called.{Called}
-use Rattle.stream.specs.declared.Answer.the-variants.{Taken, Stopped}
-use Rattle.stream.specs.declared.Ran.{Ran}
-use Rattle.stream.specs.declared.Ran.the-variants.{Through, Waiting, Stuck}
-use Rattle.stream.specs.Answers.{recordOf, answerOf}
-use Rattle.stream.specs.Running.{reached, prepend, Alike, runFrom, countOf, RunsTo, Hands}
-use Rattle.stream.proofs.Deciding.{long-decided}
+use Rattle.stream_record.specs.declared.Called.{Called}
+use Rattle.stream_record.specs.declared.Answer.the-variants.{Taken, Stopped}
+use Rattle.runs.specs.declared.Ran.{Ran}
+use Rattle.runs.specs.declared.Ran.the-variants.{Through, Waiting, Stuck}
+use Rattle.stream_record.specs.Answers.{recordOf, answerOf}
+use Rattle.stream.specs.Handing.{reached, Hands}
+use Rattle.runs.specs.Running.{prepend, Alike, runFrom, countOf, RunsTo}
+use Rattle.runs.proofs.Undecided.{long-decided}
 use Rattle.stream.proofs.Windows.{window, window-alike, short-piece}
 
 -- ── The output ───────────────────────────────────────────────────────

@@ -12,25 +12,13 @@ use Rattle.spec.specs.Scan.{Stop, waiting, stuck, Run}
 use Rattle.spec.specs.Memory.{Memory, tooShort}
 use Rattle.spec.specs.Match.{Match, nothing, found, matchOn, undecidedOn}
 use Rattle.spec.specs.Stream as spec
-use Rattle.spec.specs.Stream.{
-  StreamRecord,
-  Call,
-  add,
-  end,
-  added,
-  runOn,
-  runOn-waits,
-  runOn-none,
-  runOn-some,
-  unchanged,
-  callRefusal,
-  goesThrough,
-  callOn,
-}
-use Rattle.stream.specs.declared.Called.{Called}
-use Rattle.stream.specs.Answers.{recordOf, answerOf, Answered}
-use Rattle.stream.specs.Running.{Hands}
-use Rattle.stream.proofs.Refusing.{passes, call-short, call-refused, call-through}
+use Rattle.spec.specs.Stream.{StreamRecord, Call, add, added, runOn, callRefusal, goesThrough}
+use Rattle.laws.specs.StreamLaws.{runOn-waits, runOn-none, runOn-some}
+use Rattle.spec.specs.Stream.{callOn}
+use Rattle.stream_record.specs.declared.Called.{Called}
+use Rattle.stream_record.specs.Answers.{recordOf, answerOf, Answered}
+use Rattle.stream.specs.Handing.{Hands}
+use Rattle.stream_record.proofs.Refusing.{passes, call-short, call-refused, call-through}
 use Rattle.stream.proofs.Adding.{sets-over}
 
 module _ (m : Memory) (r : StreamRecord) (c : Call) (d : Called) (lent : List ℕ) where

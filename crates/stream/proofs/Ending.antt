@@ -14,23 +14,13 @@ use Rattle.spec.specs.Memory.{Memory, tooShort}
 use Rattle.spec.specs.Match.{Match, nothing, found, matchOn}
 use Rattle.spec.specs.Encode.{EncodeEnd, complete, unmatched, Encoding, encoded, encodeAt, encoding, encodeAnswer, Output, encodeOn}
 use Rattle.spec.specs.Stream as spec
-use Rattle.spec.specs.Stream.{
-  StreamRecord,
-  end,
-  holding,
-  stoppedAt,
-  closed,
-  scanOn,
-  scanOn-none,
-  scanOn-some,
-  callRefusal,
-  goesThrough,
-  callOn,
-}
-use Rattle.stream.specs.declared.Called.{Called}
-use Rattle.stream.specs.declared.Answer.the-variants.{Taken, Stopped}
-use Rattle.stream.specs.Answers.{recordOf, answerOf, Answered}
-use Rattle.stream.proofs.Refusing.{call-through}
+use Rattle.spec.specs.Stream.{StreamRecord, end, holding, stoppedAt, closed, scanOn, callRefusal, goesThrough}
+use Rattle.laws.specs.StreamLaws.{scanOn-none, scanOn-some}
+use Rattle.spec.specs.Stream.{callOn}
+use Rattle.stream_record.specs.declared.Called.{Called}
+use Rattle.stream_record.specs.declared.Answer.the-variants.{Taken, Stopped}
+use Rattle.stream_record.specs.Answers.{recordOf, answerOf, Answered}
+use Rattle.stream_record.proofs.Refusing.{call-through}
 
 -- ── The scan as an encoding with room ────────────────────────────────
 

@@ -3,27 +3,14 @@ use mathlib.Core.Path.{_≡_, refl, sym, ap, ap₂, _∙_}
 use mathlib.Core.List.{List, [], _∷_, _++_, map}
 use Prim.Native.Nat.{ℕ, zero, suc, _+_, _-_, _≤_, min}
 use native.Mathlib.Omega.{arith}
-use lib.ListN.{length, take, drop, replicate, length-drop}
-use lib.Seq.{paste, take-all, take-length, take-nil, take-paste, length-paste}
-use Rattle.spec.specs.Memory.{padded}
-use Rattle.stream.specs.Running.{reached}
+use lib.ListN.{length, take, drop, length-drop}
+use lib.Seq.{paste, take-all, take-nil, take-paste, length-paste}
+use Rattle.stream.specs.Handing.{reached}
 
 -- a list as a record's array holds it
 pub length-as : (l : List ℕ) → length (map (λ (x : ℕ). x) l) ≡ length l
 length-as [] = refl
 length-as (x ∷ l) = ap suc (length-as l)
-
-drop-replicate : (n k a : ℕ) → k ≤ n → drop k (replicate n a) ≡ replicate (n - k) a
-drop-replicate n zero a h = let e : n ≡ n - 0 = omega arith in ap (λ (j : ℕ). replicate j a) e
-drop-replicate zero (suc k) a h = absurd (omega arith)
-drop-replicate (suc n) (suc k) a h = let e : n - k ≡ suc n - suc k = omega arith in drop-replicate n k a (omega arith)
-    ∙ ap (λ (j : ℕ). replicate j a) e
-
--- bytes copied to the start of 254 zeros
-pub held-padded : (rest : List ℕ) → length rest ≤ 254 → paste (replicate 254 0) 0 rest (length rest) ≡ padded rest 254
-held-padded rest h =
-    let e : 0 + length rest ≡ length rest = omega arith in
-    ap₂ (λ (x y : List ℕ). x ++ y) (take-length rest) (ap (λ (k : ℕ). drop k (replicate 254 0)) e ∙ drop-replicate 254 (length rest) 0 h)
 
 take-min : (n : ℕ) (l : List ℕ) → take (min n (length l)) l ≡ take n l
 take-min zero l = let e : min 0 (length l) ≡ 0 = omega arith in ap (λ (k : ℕ). take k l) e

@@ -1,7 +1,4 @@
 -- Laws of the definitions that the proofs of the running encoder cite.
-pub mod Refusing
-pub mod Deciding
-pub mod Steps
 pub mod Holding
 pub mod Windows
 pub mod Adding

@@ -12,8 +12,9 @@ use lib.Seq.{take-take, take-all, drop-append-le, length-take-le}
 use borrow.Author.Tests.{leb-true, leb-false}
 use Rattle.spec.specs.Memory.{Memory}
 use Rattle.spec.specs.Match.{Walk, enter, walkOn, Match, found, one, matchOn}
-use Rattle.stream.specs.Running.{reached, Alike}
-use Rattle.stream.proofs.Deciding.{long-decided}
+use Rattle.stream.specs.Handing.{reached}
+use Rattle.runs.specs.Running.{Alike}
+use Rattle.runs.proofs.Undecided.{long-decided}
 
 -- ── A walk sees 255 bytes ────────────────────────────────────────────
 

@@ -1,3 +1,2 @@
 -- What the contracts of the running encoder cite beside the definitions of `spec`.
-pub mod Answers
-pub mod Running
+pub mod Handing

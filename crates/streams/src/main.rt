@@ -6,18 +6,10 @@ use cases::write_ids;
 use cases::write_number;
 use encoding::Encoded;
 use libc::STDOUT_FILENO;
-use stream::Answer;
-use stream::Stream;
+use stream_record::Answer;
+use stream_record::Stream;
 ghost use Prim.Native.Nat.{_≤_};
 ghost use lib.ListN.{length};
-
-fn wide(n: u32) -> u64 {
-    n as u64
-}
-
-fn byte_wide(b: u8) -> u64 {
-    b as u64
-}
 
 // The ids so far, and the number of a refusal with its offset and byte, or zeros.
 struct Outcome {
@@ -54,8 +46,8 @@ fn outcome_of(answer: Answer) -> Outcome {
         } => Outcome {
             count,
             number: 22,
-            offset: wide(offset),
-            byte: byte_wide(byte),
+            offset: cells::u32_to_u64(offset),
+            byte: cells::u8_to_u64(byte),
         },
         Answer::ShortMemory => no_ids(1),
         Answer::Ended => no_ids(26),
@@ -80,7 +72,7 @@ fn whole_outcome(encoded: Encoded) -> Outcome {
             count,
             number: 22,
             offset: offset as u64,
-            byte: byte_wide(byte),
+            byte: cells::u8_to_u64(byte),
         },
         Encoded::ShortMemory => no_ids(1),
         Encoded::Full { count, offset: _ } => no_ids(23),
@@ -247,7 +239,7 @@ fn differs(
     let mut src = [0u8; 8];
     let mut ids = [0u32; 8];
     let mut others = [0u32; 8];
-    let fresh = stream::fresh();
+    let fresh = stream_record::fresh();
     let n = join(words, &mut src);
     let encoded = encoding::encode_sequential_bytes(
         single,
@@ -346,7 +338,7 @@ fn examples(
     table: &[u64],
     ids: &mut [u32],
 ) {
-    let fresh = stream::fresh();
+    let fresh = stream_record::fresh();
     show(single, offsets, blob, roots, table, fresh, b"ab b c", ids);
     show(single, offsets, blob, roots, table, fresh, b"abc", ids);
     show(single, offsets, blob, roots, table, fresh, b"c", ids);
@@ -372,7 +364,7 @@ fn held(
     table: &[u64],
     ids: &mut [u32],
 ) {
-    let fresh = stream::fresh();
+    let fresh = stream_record::fresh();
     let mut words = [b'x'; 256];
     words[254] = b' ';
     show(single, offsets, blob, roots, table, fresh, &words, ids);
@@ -399,7 +391,7 @@ fn refusals(
     table: &[u64],
     ids: &mut [u32],
 ) {
-    let fresh = stream::fresh();
+    let fresh = stream_record::fresh();
     let mut full = fresh;
     full.total = 4294967295;
     show(single, offsets, blob, roots, table, full, b"a", ids);
@@ -407,7 +399,7 @@ fn refusals(
     over.held_len = 1;
     show(single, offsets, blob, roots, table, over, b"a", ids);
     let mut ended = fresh;
-    ended.phase = stream::ENDED;
+    ended.phase = stream_record::ENDED;
     show(single, offsets, blob, roots, table, ended, b"a", ids);
     let mut few = [0u32; 2];
     show(
@@ -450,7 +442,7 @@ fn all(single: &[i32], offsets: &[u32], blob: &[u8], roots: &[u64], table: &[u64
     held(single, offsets, blob, roots, table, &mut ids);
     refusals(single, offsets, blob, roots, table, &mut ids);
     let n = differing(single, offsets, blob, roots, table, 78125);
-    write_number(wide(n));
+    write_number(cells::u32_to_u64(n));
     write(b" of 78125 cuttings differ from the whole\n");
 }
 

@@ -1,6 +1,3 @@
 -- Lemmas that several proofs cite.
-mod Ranges
-mod Steps
-mod Cells
-mod Reading
-pub mod Points
+pub mod Ranges
+pub mod StepTurns

@@ -1,4 +1,3 @@
 -- What the proofs of this crate share.
-pub mod Reading
 pub mod Types
 pub mod Passing

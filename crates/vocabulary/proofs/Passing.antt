@@ -2,13 +2,13 @@
 use Rattle.walks.specs.Prelude.{List, [], _∷_, ℕ, ℤ, URA, w8, w64, vint, fullShare, Heap, Atoms, Given, u8, u32, u64, usize, i32, bool}
 use Rattle.walks.specs.Prelude.{slice-vals, Par, value, copied, viewed, lent, Lfs, Shs, Dens, Vss, Ends, ended, spelled, Bind, bool-plain}
 use denote.Ref.{RefT}
-use Rattle.trie.specs.Run.{Nodes}
-use Rattle.trie.proofs.Node as NodeT
-use Rattle.builder.specs.declared.Build.{Build}
-use Rattle.builder.specs.declared.Finished.{Finished}
-use Rattle.builder.proofs.Build as BuildT
-use Rattle.builder.proofs.Finished as FinishedT
-use Rattle.vocabulary.specs.declared.lines.Taking.{Taking}
+use Rattle.nodes.specs.Run.{Nodes}
+use Rattle.nodes.proofs.Node as NodeT
+use Rattle.tokens.specs.declared.Build.{Build}
+use Rattle.ending.specs.declared.Finished.{Finished}
+use Rattle.tokens.proofs.Build as BuildT
+use Rattle.ending.proofs.Finished as FinishedT
+use Rattle.answers.specs.declared.taking.Taking.{Taking}
 use Rattle.vocabulary.proofs.Types.{build, finish-end}
 
 -- the vocabulary memory; then the parameters of `load_text`, and of its callees `take_lines`, `refuse_line`, `finish` and `settle`

@@ -1,12 +1,12 @@
 -- What a walk by hand knows of plain data: the structs and enums that the loader's calls pass by value. Assumes `Given`.
 use Rattle.walks.specs.Prelude.{URA, w8, w16, w64, Heap, Atoms, Given, u8, u16, usize, Plain, uint-plain, struct-plain, enum-plain}
-use Rattle.builder.proofs.Build as BuildT
-use Rattle.builder.proofs.Pushed as PushedT
-use Rattle.builder.proofs.Finished as FinishedT
-use Rattle.vocabulary.proofs.lines.Taking as TakingT
-use Rattle.vocabulary.proofs.Place as PlaceT
-use Rattle.vocabulary.proofs.LoadRefusal as RefusalT
-use Rattle.vocabulary.proofs.Load as LoadT
+use Rattle.tokens.proofs.Build as BuildT
+use Rattle.tokens.proofs.Pushed as PushedT
+use Rattle.ending.proofs.Finished as FinishedT
+use Rattle.answers.proofs.taking.Taking as TakingT
+use Rattle.source.proofs.Place as PlaceT
+use Rattle.source.proofs.LoadRefusal as RefusalT
+use Rattle.answers.proofs.Load as LoadT
 
 module _ {M : Type 1} {𝓤 : URA M} {H : Heap 𝓤} {A : Atoms 𝓤} (W : Given 𝓤 H A) where
   abbrev pub byte : Plain 𝓤 H A u8

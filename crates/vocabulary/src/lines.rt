@@ -1,129 +1,16 @@
 // The lines of a vocabulary text, taken one by one: each states a token, and the builder takes it.
-ghost use mathlib.Core.Path.{_≡_};
-ghost use mathlib.Core.Bool.{Bool, not};
+ghost use mathlib.Core.Bool.{Bool};
 ghost use mathlib.Core.List.{[]};
-ghost use Prim.Native.Nat.{ℕ, _≤_, _<_};
-ghost use lib.Dec.{T};
+ghost use Prim.Native.Nat.{ℕ, _≤_};
 ghost use lib.ListN.{length};
 ghost use Rattle.spec.specs.Memory.{memory};
 ghost use Rattle.laws.specs.Reads.{LongEnough};
-ghost use Rattle.builder.specs.Built.{Built, Kept, roomFor};
-ghost use Rattle.vocabulary.specs.Answers.{begunAs, stoppedAs, lineAs, pushedAs, LinesAs};
-ghost use Rattle.vocabulary.specs.Taking.{NextAs};
-use crate::read;
-use crate::read::Read;
-use builder::Build;
-use builder::Pushed;
-use trie::Node;
-
-// How far the taking of a text's lines is: the tokens taken; whether the line that was read last states a token that is yet to be taken,
-// its id and how many bytes of it stand in the cells lent; where the line after that starts, how many lines were read, and document 01's
-// number of the last one's refusal, 0 if it has none.
-pub struct Taking {
-    pub build: Build,
-    pub takes: bool,
-    pub id: u16,
-    pub len: usize,
-    pub at: usize,
-    pub lines: usize,
-    pub number: u8,
-}
-
-// Before the first line.
-fn begun(build: Build) -> Taking
-    ensures { λ r. ⌜ r ≡ begunAs build ⌝ }
-{
-    Taking {
-        build,
-        takes: false,
-        id: 0,
-        len: 0,
-        at: 0,
-        lines: 0,
-        number: 0,
-    }
-}
-
-// The taking ends: the line that was read last is refused with this number, or no line is left and the number is 0.
-fn stopped(t: Taking, number: u8) -> Taking
-    ensures { λ r. ⌜ r ≡ stoppedAs t number ⌝ }
-{
-    let build = t.build;
-    Taking {
-        build,
-        takes: false,
-        id: t.id,
-        len: t.len,
-        at: t.at,
-        lines: t.lines,
-        number,
-    }
-}
-
-// One line more was read, and the one after it starts at `next`. Lines are counted from 1.
-fn line_read(t: Taking, next: usize, found: Read) -> Taking
-    requires { ⌜ t .lines < next ⌝ }
-    ensures { λ r. ⌜ r ≡ lineAs t next found ⌝ }
-{
-    let build = t.build;
-    let past = Taking {
-        build,
-        takes: false,
-        id: t.id,
-        len: t.len,
-        at: next,
-        lines: t.lines + 1,
-        number: 0,
-    };
-    match found {
-        Read::Found(id, len) => Taking {
-            build,
-            takes: true,
-            id,
-            len,
-            at: past.at,
-            lines: past.lines,
-            number: 0,
-        },
-        Read::Refused(number) => stopped(past, number),
-    }
-}
-
-// The next line of the text, if there is one and none was refused. The bytes of the token that it states go into the cells.
-fn read_next(text: &[u8], t: Taking, cells: &mut [u8]) -> Taking
-    requires { ⌜ (t .at ≤ length (now text)) × (t .lines ≤ t .at) × T (not (t .takes)) × (255 ≤ length (now cells)) ⌝ }
-    ensures { λ r. ⌜ NextAs (now (text .entry)) (now (cells .exit)) t r ⌝ }
-{
-    if t.number != 0 {
-        return t;
-    }
-    let at = t.at;
-    match line::next_line(text, at) {
-        line::NextLine::Nothing => stopped(t, 0),
-        line::NextLine::Line { end, next } => {
-            let found = read::read_line(&text[at..end], t.build.previous, cells);
-            line_read(t, next, found)
-        }
-    }
-}
-
-// The token of the line that was read last is taken, or refused.
-fn after_push(t: Taking, pushed: Pushed) -> Taking
-    ensures { λ r. ⌜ r ≡ pushedAs t pushed ⌝ }
-{
-    match pushed {
-        Pushed::Taken(build) => Taking {
-            build,
-            takes: false,
-            id: t.id,
-            len: t.len,
-            at: t.at,
-            lines: t.lines,
-            number: 0,
-        },
-        Pushed::Refused(number) => stopped(t, number),
-    }
-}
+ghost use Rattle.tokens.specs.Built.{Built, Kept, roomFor};
+ghost use Rattle.answers.specs.LoadParts.{LinesAs};
+use answers::taking;
+use answers::taking::Taking;
+use nodes::Node;
+use tokens::Build;
 
 // The tokens of a text's lines, from a build without tokens: each line states one, and the builder takes it. The cells are work memory.
 pub fn take_lines(
@@ -144,7 +31,7 @@ pub fn take_lines(
     ensures kept { λ r. ⌜ Kept (now (single .entry)) (now (offsets .entry)) (now (roots .entry))
         (now (single .exit)) (now (offsets .exit)) (now (roots .exit)) ⌝ }
 {
-    let mut t = read_next(text, begun(build), cells);
+    let mut t = taking::read_next(text, taking::begun(build), cells);
     while t.takes {
         let pushed = builder::push(
             single,
@@ -157,7 +44,7 @@ pub fn take_lines(
             cells,
             t.len,
         );
-        t = read_next(text, after_push(t, pushed), cells);
+        t = taking::read_next(text, taking::after_push(t, pushed), cells);
     }
     t
 }

@@ -37,15 +37,15 @@ use denote.Lend.{Held, lends-slice, slice-back}
 use denote.Slice.{sliceVal, MutSlice, Room, finally, sliceTy, slice-vals}
 use denote.Steps.{only, peeks, nothing}
 use borrow.Table.Elements.{at, cut-app, join-app, same-len}
-use Rattle.walks.specs.Lent.{at-list}
-use Rattle.walks.specs.Tests.{le-refl}
+use Rattle.walks.specs.Lending.{at-list}
+use Rattle.walks.specs.Branches.{le-refl}
 use lib.Dec.{T as Holds, ltb, lit<}
 use types.Part.{agg}
 use denote.Ref.{RefT, at-last}
 use denote.Shadow.{shadow}
 use Rattle.walks.specs.Positions.{parted}
 use Rattle.walks.specs.Loan.{Mut}
-use Rattle.walks.specs.Plain.{Plain}
+use Rattle.walks.specs.PlainData.{Plain}
 use Rattle.walks.specs.Leave.{give-mut}
 use Rattle.walks.specs.Locals.{local-at}
 

@@ -30,7 +30,7 @@ use denote.Steps.{only as only-one, peeks}
 use Rattle.walks.specs.Loan.{Par, Lfs, Shs, Dens, Vss, row, News, lfs, shs, dens, Ends, ended, Long, ownsP, lastsP, keptP, toksP}
 use Rattle.walks.specs.Loan.{holds, Made, lend-all, end-all}
 use Rattle.walks.specs.Positions.{rel, others, puts, apart, puts⊢}
-use Rattle.walks.specs.Plain.{Plain}
+use Rattle.walks.specs.PlainData.{Plain}
 use Rattle.walks.specs.Leave.{After}
 
 module _ {M : Type 1} {𝓤 : URA M} {H : Heap 𝓤} {A : Atoms 𝓤} {K : Type 0} (W : Given 𝓤 H A) (Γ : List (Item 𝓤)) (E : Env 𝓤 H)

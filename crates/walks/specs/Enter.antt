@@ -25,7 +25,7 @@ use denote.Steps.{peeks}
 use denote.Triple.Walked.{needs}
 use Rattle.walks.specs.Loan.{Par, value, copied, viewed, lent, borrowed, Lfs, Shs, Dens, Vss, row, Mut, Shr, Ref, ownsP, toksP}
 use Rattle.walks.specs.Loan.{holds}
-use Rattle.walks.specs.Plain.{Plain}
+use Rattle.walks.specs.PlainData.{Plain}
 
 module _ {M : Type 1} (𝓤 : URA M) (H : Heap 𝓤) (A : Atoms 𝓤) where
   abbrev pub Plains : List Par → Type 2

@@ -24,7 +24,7 @@ use denote.Shadow.{pureL}
 use denote.Steps.{nothing}
 use Rattle.walks.specs.Loan.{Par, value, copied, viewed, lent, borrowed, Lfs, Shs, Dens, Vss, Ends, ended, Long, Mut, Shr, Ref}
 use Rattle.walks.specs.Loan.{lastsP, toksP, holds}
-use Rattle.walks.specs.Plain.{Plain}
+use Rattle.walks.specs.PlainData.{Plain}
 use Rattle.walks.specs.Enter.{Plains}
 
 module _ {M : Type 1} (𝓤 : URA M) (H : Heap 𝓤) (A : Atoms 𝓤) where

@@ -7,10 +7,10 @@
 --         cells: &mut [u8], at: Front, end: usize) -> Front
 --     {
 --         let n = trie::gather(nodes, made, node, cells);
---         let p = place_some(used, bases, cursors, cells, n, at.from, end);
+--         let p = slots::place_some(used, bases, cursors, cells, n, at.from, end);
 --         let old = trie::fetch(nodes, node);
 --         trie::store(nodes, node, kept(old, p));
---         passed(used, at, end, p)
+--         slots::passed(used, at, end, p)
 --     }
 -- Its MIR (`rt mir packing`) has locals 0 to 32: 0 the result, 1 to 9 the parameters, 10 n, 11 p, 12 old, the others as the compiler needs
 -- them. A comment before each group of lines has the statement of Rust that it belongs to.
@@ -36,10 +36,10 @@
 -- A field of a result is read once `respell` has written its value by its fields. An early return is `returns-within` in an arm of
 -- `checks` (trie's proofs/child_made), a loop `whiles` (trie's proofs/child_of), a local array `lends-local` (packing's proofs/place_all),
 -- a lent struct `opens-at` (rwkv_tokenizer's proofs/lent).
-pub mod Lent
+pub mod Lending
 pub mod Loan
 pub mod Positions
-pub mod Plain
+pub mod PlainData
 pub mod Enter
 pub mod Leave
 pub mod Locals
@@ -47,6 +47,6 @@ pub mod Open
 pub mod Statements
 pub mod Call
 pub mod Loop
-pub mod Tests
+pub mod Branches
 pub mod Arrays
 pub mod Prelude

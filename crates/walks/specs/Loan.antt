@@ -29,7 +29,7 @@ use denote.Lend.{LentAgain, lends-again, comes-back}
 use denote.Slice.{MutSlice, ShrSlice, at-slice, finally, shr-slice-copy}
 use denote.Shadow.{pureL, pureI}
 use denote.Steps.{peeks, nothing}
-use Rattle.walks.specs.Lent.{Shared, Again, lends-shared, ends-shared, lends-mut, ends-mut}
+use Rattle.walks.specs.Lending.{Shared, Again, lends-shared, ends-shared, lends-mut, ends-mut}
 
 pub data Par : Type 2 where
   value : RattleType → Par

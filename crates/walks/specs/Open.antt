@@ -30,7 +30,7 @@ use denote.Shadow.{pureL, pureI}
 use denote.Steps.{peeks, opens, closes, owned}
 use Rattle.walks.specs.Loan.{Mut, Shr, Ref}
 use Rattle.walks.specs.Positions.{rel, ins, others, puts, parted, placed, parted2, joined}
-use Rattle.walks.specs.Plain.{Plain}
+use Rattle.walks.specs.PlainData.{Plain}
 
 -- ---- a `&mut T` that the function itself reads and writes
 -- what is left of it while it is open

@@ -25,38 +25,9 @@ pub use ghost.Atoms.{Atoms}
 pub use contract.Monad.{Fun}
 unfoldable pub use contract.Running.{givenOf, tables, tablesOf}
 pub use types.Kit.{Given, Item, ‵, runs, anyQ, atRet, Sq, _$_, _∵_, !, by, rewrite}
-pub use types.Run.{
-  look,
-  look-raw,
-  store-raw,
-  init,
-  hop,
-  fld,
-  addr,
-  stop,
-  from,
-  load,
-  lit,
-  unit-lit,
-  true-lit,
-  false-lit,
-  of-opd,
-  and-then,
-  no-more,
-  assigns,
-  land,
-  land-last,
-  returns,
-  returns-within,
-  store,
-  bin,
-  first,
-  blocks as within-block,
-  exec,
-  Below as Lower,
-  again,
-  loops,
-}
+pub use types.Run.{look, look-raw, store-raw, init, hop, fld, addr, stop, from, load, lit, unit-lit, true-lit, false-lit, of-opd}
+pub use types.Run.{and-then, no-more, assigns, land, land-last, returns, returns-within, store, bin, first, blocks as within-block, exec}
+pub use types.Run.{Below as Lower, again, loops}
 pub use denote.RattleType.{RattleType}
 pub use denote.Builtin.{u8, u16, u32, u64, usize, i32, bool, unit}
 pub use denote.Slice.{slice-vals}
@@ -64,7 +35,7 @@ pub use denote.Triple.Spec.{tripleOf, Meets}
 pub use denote.Triple.Clauses.{atExit}
 pub use denote.Triple.Table.{entered, cited}
 pub use Rattle.walks.specs.Loan.{Par, value, copied, viewed, lent, borrowed, Lfs, Shs, Dens, Vss, Ends, Long, ended, row, holds}
-pub use Rattle.walks.specs.Plain.{Plain, uint-plain, bool-plain, unit-plain, struct-plain, enum-plain}
+pub use Rattle.walks.specs.PlainData.{Plain, uint-plain, bool-plain, unit-plain, struct-plain, enum-plain}
 pub use Rattle.walks.specs.Enter.{Plains, Known, spelled, fitted, met, told0, told2, said1, said2}
 pub use Rattle.walks.specs.Leave.{After, Ending, ends-with}
 pub use Rattle.walks.specs.Locals.{Blocks, envAt, dying, reborrow, respell, leaves}
@@ -73,17 +44,5 @@ pub use Rattle.walks.specs.Statements.{var, part, big-lit, sets, resets,
 pub use Rattle.walks.specs.Call.{Bind, at, calls-of, calls-of-last, calls-to, copies, copies-but}
 pub use Rattle.walks.specs.Loop.{Walked, starts, cells, Inv, Turn, whiles, next-turn, forgets}
 pub use Rattle.walks.specs.Arrays.{repeated, local, lends-local, ends-local, lends-first, ends-first, slices-local}
-pub use Rattle.walks.specs.Tests.{
-  tests,
-  checks,
-  ne-of,
-  not-not,
-  lt-le,
-  lt-lt,
-  le-le,
-  lt-of-lt,
-  lt-keeps,
-  le-keeps,
-  below-one,
-  le-refl,
-}
+pub use Rattle.walks.specs.Branches.{tests, checks, ne-of, not-not, lt-le, lt-lt, le-le, lt-of-lt, lt-keeps, le-keeps, below-one}
+pub use Rattle.walks.specs.Branches.{le-refl}

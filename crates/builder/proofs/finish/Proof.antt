@@ -9,22 +9,22 @@ use native.Mathlib.Omega.{arith}
 use denote.Struct.Laws as LL
 use Rattle.spec.specs.Memory.{memory}
 use Rattle.laws.specs.Reads.{LongEnough}
-use Rattle.trie.specs.Run.{Nodes, room}
-use Rattle.trie.proofs.Node as NodeT
-use Rattle.packing.proofs.Packed as PackedT
+use Rattle.nodes.specs.Run.{Nodes, room}
+use Rattle.nodes.proofs.Node as NodeT
+use Rattle.words.proofs.Packed as PackedT
 use Rattle.packing.proofs.pack as pack
-use Rattle.builder.specs.declared.Finished.{Finished}
-use Rattle.builder.specs.Built.{FinishedAs}
-use Rattle.builder.specs.Finish.{single-of, finished-as, end-kept}
-use Rattle.builder.proofs.Build as BuildT
-use Rattle.builder.proofs.Stop as StopT
-use Rattle.builder.proofs.Finished as FinishedT
-use Rattle.builder.proofs.Types.{build, stopping, packing, finished}
-use Rattle.builder.proofs.stop_of as stop-of
-use Rattle.builder.proofs.is_stop as is-stop
-use Rattle.builder.proofs.finished_by as finished-by
-use Rattle.builder.proofs.set_total as set-total
-use Rattle.builder.proofs.finished_of as finished-of
+use Rattle.ending.specs.declared.Finished.{Finished}
+use Rattle.ending.specs.EndOfBuild.{FinishedAs}
+use Rattle.ending.proofs.BuildEnd.{single-of, finished-as, end-kept}
+use Rattle.tokens.proofs.Build as BuildT
+use Rattle.ending.proofs.Stop as StopT
+use Rattle.ending.proofs.Finished as FinishedT
+use Rattle.builder.proofs.BuilderTypes.{build, stopping, packing, finished}
+use Rattle.ending.proofs.stop_of as stop-of
+use Rattle.ending.proofs.is_stop as is-stop
+use Rattle.ending.proofs.finished_by as finished-by
+use Rattle.ending.proofs.set_total as set-total
+use Rattle.ending.proofs.finished_of as finished-of
 use Rattle.builder.proofs.finish as f
 use Rattle.builder.proofs.finish.Code as code
 
@@ -157,11 +157,11 @@ finish-spec 𝓤 H 𝓜 𝓖 𝓡 =
     (code.unfolded 𝓤 H 𝓜 𝓡)
     (λ y. met 𝓤 H A W ps (pl 𝓤 H A W (𝓜 .mem) (𝓡 .run)) (y .0 .0) (y .0 .1) (y .0 .3) (y .0 .4) _ (id⊢ 𝓤 _)
     (WpFn 𝓤 H (𝓣 .C) (𝓣 .Λ) code.function) (λ kn. walk 𝓤 H A W (𝓜 .mem) (𝓡 .run) (y .0 .0) (y .0 .1) (y .0 .3) kn 𝓣
-    (cited 𝓤 H _ 𝓜 𝓡 code.env stop-of.Symbol.name stop-of.Symbol.routine code.calls-builder·stop-of (stop-of.Met.met 𝓤 H 𝓜 𝓖 𝓡))
-    (cited 𝓤 H _ 𝓜 𝓡 code.env is-stop.Symbol.name is-stop.Symbol.routine code.calls-builder·is-stop (is-stop.Met.met 𝓤 H 𝓜 𝓖 𝓡))
-    (cited 𝓤 H _ 𝓜 𝓡 code.env finished-by.Symbol.name finished-by.Symbol.routine code.calls-builder·finished-by
+    (cited 𝓤 H _ 𝓜 𝓡 code.env stop-of.Symbol.name stop-of.Symbol.routine code.calls-ending·stop-of (stop-of.Met.met 𝓤 H 𝓜 𝓖 𝓡))
+    (cited 𝓤 H _ 𝓜 𝓡 code.env is-stop.Symbol.name is-stop.Symbol.routine code.calls-ending·is-stop (is-stop.Met.met 𝓤 H 𝓜 𝓖 𝓡))
+    (cited 𝓤 H _ 𝓜 𝓡 code.env finished-by.Symbol.name finished-by.Symbol.routine code.calls-ending·finished-by
     (finished-by.Met.met 𝓤 H 𝓜 𝓖 𝓡))
-    (cited 𝓤 H _ 𝓜 𝓡 code.env set-total.Symbol.name set-total.Symbol.routine code.calls-builder·set-total (set-total.Met.met 𝓤 H 𝓜 𝓖 𝓡))
+    (cited 𝓤 H _ 𝓜 𝓡 code.env set-total.Symbol.name set-total.Symbol.routine code.calls-ending·set-total (set-total.Met.met 𝓤 H 𝓜 𝓖 𝓡))
     (cited 𝓤 H _ 𝓜 𝓡 code.env pack.Symbol.name pack.Symbol.routine code.calls-packing·pack (pack.Met.met 𝓤 H 𝓜 𝓖 𝓡))
-    (cited 𝓤 H _ 𝓜 𝓡 code.env finished-of.Symbol.name finished-of.Symbol.routine code.calls-builder·finished-of
+    (cited 𝓤 H _ 𝓜 𝓡 code.env finished-of.Symbol.name finished-of.Symbol.routine code.calls-ending·finished-of
     (finished-of.Met.met 𝓤 H 𝓜 𝓖 𝓡))))

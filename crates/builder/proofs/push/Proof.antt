@@ -10,22 +10,22 @@ use denote.Struct.Laws as LL
 use lib.Dec.{eqb→eq}
 use Rattle.spec.specs.Memory.{memory}
 use Rattle.laws.specs.Reads.{LongEnough}
-use Rattle.trie.specs.declared.Inserted.{Inserted}
-use Rattle.trie.specs.Run.{Nodes}
-use Rattle.trie.proofs.Node as NodeT
-use Rattle.trie.proofs.Inserted as InsertedT
+use Rattle.nodes.specs.declared.Inserted.{Inserted}
+use Rattle.nodes.specs.Run.{Nodes}
+use Rattle.nodes.proofs.Node as NodeT
+use Rattle.nodes.proofs.Inserted as InsertedT
 use Rattle.trie.proofs.insert as insert
-use Rattle.builder.specs.declared.Pushed.{Pushed}
-use Rattle.builder.specs.Built.{Small}
-use Rattle.builder.specs.Grow.{two-bytes, within, enter-first, enter-more, pushed-none}
-use Rattle.builder.proofs.Build as BuildT
-use Rattle.builder.proofs.Pushed as PushedT
-use Rattle.builder.proofs.Types.{build, inserted, pushed}
-use Rattle.builder.proofs.capacity as capacity
-use Rattle.builder.proofs.is_full as is-full
-use Rattle.builder.proofs.no_room as no-room
-use Rattle.builder.proofs.enter_one as enter-one
-use Rattle.builder.proofs.push_entered as push-entered
+use Rattle.tokens.specs.declared.Pushed.{Pushed}
+use Rattle.tokens.specs.Built.{Small}
+use Rattle.tokens.proofs.PushMeans.{two-bytes, within, enter-first, enter-more, pushed-none}
+use Rattle.tokens.proofs.Build as BuildT
+use Rattle.tokens.proofs.Pushed as PushedT
+use Rattle.builder.proofs.BuilderTypes.{build, inserted, pushed}
+use Rattle.tokens.proofs.capacity as capacity
+use Rattle.tokens.proofs.is_full as is-full
+use Rattle.tokens.proofs.no_room as no-room
+use Rattle.tokens.proofs.enter_one as enter-one
+use Rattle.tokens.proofs.push_entered as push-entered
 use Rattle.builder.proofs.push as f
 use Rattle.builder.proofs.push.Code as code
 
@@ -186,10 +186,10 @@ push-spec 𝓤 H 𝓜 𝓖 𝓡 =
     (code.unfolded 𝓤 H 𝓜 𝓡)
     (λ y. met 𝓤 H A W ps (pl 𝓤 H A W (𝓜 .mem) (𝓡 .run)) (y .0 .0) (y .0 .1) (y .0 .3) (y .0 .4) _ (id⊢ 𝓤 _)
     (WpFn 𝓤 H (𝓣 .C) (𝓣 .Λ) code.function) (λ kn. walk 𝓤 H A W (𝓜 .mem) (𝓡 .run) (y .0 .0) (y .0 .1) (y .0 .3) kn 𝓣
-    (cited 𝓤 H _ 𝓜 𝓡 code.env capacity.Symbol.name capacity.Symbol.routine code.calls-builder·capacity (capacity.Met.met 𝓤 H 𝓜 𝓖 𝓡))
-    (cited 𝓤 H _ 𝓜 𝓡 code.env is-full.Symbol.name is-full.Symbol.routine code.calls-builder·is-full (is-full.Met.met 𝓤 H 𝓜 𝓖 𝓡))
-    (cited 𝓤 H _ 𝓜 𝓡 code.env no-room.Symbol.name no-room.Symbol.routine code.calls-builder·no-room (no-room.Met.met 𝓤 H 𝓜 𝓖 𝓡))
-    (cited 𝓤 H _ 𝓜 𝓡 code.env enter-one.Symbol.name enter-one.Symbol.routine code.calls-builder·enter-one (enter-one.Met.met 𝓤 H 𝓜 𝓖 𝓡))
+    (cited 𝓤 H _ 𝓜 𝓡 code.env capacity.Symbol.name capacity.Symbol.routine code.calls-tokens·capacity (capacity.Met.met 𝓤 H 𝓜 𝓖 𝓡))
+    (cited 𝓤 H _ 𝓜 𝓡 code.env is-full.Symbol.name is-full.Symbol.routine code.calls-tokens·is-full (is-full.Met.met 𝓤 H 𝓜 𝓖 𝓡))
+    (cited 𝓤 H _ 𝓜 𝓡 code.env no-room.Symbol.name no-room.Symbol.routine code.calls-tokens·no-room (no-room.Met.met 𝓤 H 𝓜 𝓖 𝓡))
+    (cited 𝓤 H _ 𝓜 𝓡 code.env enter-one.Symbol.name enter-one.Symbol.routine code.calls-tokens·enter-one (enter-one.Met.met 𝓤 H 𝓜 𝓖 𝓡))
     (cited 𝓤 H _ 𝓜 𝓡 code.env insert.Symbol.name insert.Symbol.routine code.calls-trie·insert (insert.Met.met 𝓤 H 𝓜 𝓖 𝓡))
-    (cited 𝓤 H _ 𝓜 𝓡 code.env push-entered.Symbol.name push-entered.Symbol.routine code.calls-builder·push-entered
+    (cited 𝓤 H _ 𝓜 𝓡 code.env push-entered.Symbol.name push-entered.Symbol.routine code.calls-tokens·push-entered
     (push-entered.Met.met 𝓤 H 𝓜 𝓖 𝓡))))

@@ -20,11 +20,11 @@ write-requires c κs = search needs
 loop-holds : tie.Need-loop-holds Inv-loop μ-loop
 loop-holds c = search needs
 
-shared-slice-read-wide : tie.Need-shared-slice-read-wide Inv-loop μ-loop
-shared-slice-read-wide c = search needs
+shared-slice-read-u8-to-u64 : tie.Need-shared-slice-read-u8-to-u64 Inv-loop μ-loop
+shared-slice-read-u8-to-u64 c = search needs
 
-wide-requires : tie.Need-wide-requires Inv-loop μ-loop
-wide-requires c κs = search needs
+u8-to-u64-requires : tie.Need-u8-to-u64-requires Inv-loop μ-loop
+u8-to-u64-requires c κs = search needs
 
 print-hex-requires : tie.Need-print-hex-requires Inv-loop μ-loop
 print-hex-requires c κs = search needs
@@ -56,8 +56,8 @@ write-bytes-spec =
     slice-aggregate-write
     write-requires
     loop-holds
-    shared-slice-read-wide
-    wide-requires
+    shared-slice-read-u8-to-u64
+    u8-to-u64-requires
     print-hex-requires
     add-i
     loop-less

@@ -23,14 +23,14 @@ slice-aggregate-write c = search needs
 write-requires : tie.Need-write-requires Inv-loop μ-loop
 write-requires c κs = search needs
 
-mul-wide-id : tie.Need-mul-wide-id Inv-loop μ-loop
-mul-wide-id c = search needs
+mul-u32-to-u64 : tie.Need-mul-u32-to-u64 Inv-loop μ-loop
+mul-u32-to-u64 c = search needs
 
-shared-slice-read-wide-id : tie.Need-shared-slice-read-wide-id Inv-loop μ-loop
-shared-slice-read-wide-id c = search needs
+shared-slice-read-u32-to-u64 : tie.Need-shared-slice-read-u32-to-u64 Inv-loop μ-loop
+shared-slice-read-u32-to-u64 c = search needs
 
-wide-id-requires : tie.Need-wide-id-requires Inv-loop μ-loop
-wide-id-requires c κs = search needs
+u32-to-u64-requires : tie.Need-u32-to-u64-requires Inv-loop μ-loop
+u32-to-u64-requires c κs = search needs
 
 write-number-requires : tie.Need-write-number-requires Inv-loop μ-loop
 write-number-requires c κs = search needs
@@ -57,9 +57,9 @@ write-ids-spec =
     returns
     slice-aggregate-write
     write-requires
-    mul-wide-id
-    shared-slice-read-wide-id
-    wide-id-requires
+    mul-u32-to-u64
+    shared-slice-read-u32-to-u64
+    u32-to-u64-requires
     write-number-requires
     add-i
     loop-less

@@ -39,4 +39,5 @@ returns : tie.Need-returns Inv-loop μ-loop
 returns c = filling-ends (c .loop-test .left) (c .before .loop .inv)
 
 pub fill-u64-spec : {M : Type 1} → statement M
-fill-u64-spec = tie.close (tie.spec Inv-loop μ-loop loop-holds add-cells mul-cells slice-write-cells add-k loop-less loop-again same-length returns)
+fill-u64-spec =
+    tie.close (tie.spec Inv-loop μ-loop loop-holds add-cells mul-cells slice-write-cells add-k loop-less loop-again same-length returns)

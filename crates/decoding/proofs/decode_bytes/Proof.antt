@@ -2,7 +2,7 @@
 use borrow.Author.Needs.{needs}
 use mathlib.Core.Path.{sym, _∙_}
 use lib.ListN.{length}
-use Rattle.decoding.proofs.Decode.{answered-short, answered}
+use Rattle.decoding.proofs.DecodePasses.{answered-short, answered}
 use Rattle.decoding.proofs.decode_bytes.Statement.{statement}
 use Rattle.decoding.proofs.decode_bytes.Tie as tie
 

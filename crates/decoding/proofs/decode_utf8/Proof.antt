@@ -14,7 +14,7 @@ use Rattle.decoding.specs.declared.Decoded.{Decoded}
 use Rattle.decoding.specs.declared.Decoded.the-variants.{Whole, ShortMemory, Absent, Full, NotUtf8}
 use Rattle.decoding.specs.Answers.{answerOf}
 use Rattle.decoding.proofs.Decoded as Decoded·proofs
-use Rattle.decoding.proofs.Text.{text-other, text-good, text-bad, whole-inside}
+use Rattle.decoding.proofs.DecodeText.{text-other, text-good, text-bad, whole-inside}
 use Rattle.decoding.proofs.decode_utf8.Statement.{statement}
 use Rattle.decoding.proofs.decode_utf8.Tie as tie
 

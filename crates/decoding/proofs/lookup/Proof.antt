@@ -7,7 +7,8 @@ use borrow.Author.Needs.{needs}
 use Rattle.spec.specs.Decode.{lookup}
 use Rattle.decoding.specs.declared.Span.{Span}
 use Rattle.decoding.specs.Measured.{tokens}
-use Rattle.decoding.specs.Span.{spanOf, spanBytes, span-far, span-unpaired, span-empty, span-past, span-long, span-token, span-lookup}
+use Rattle.decoding.specs.Span.{spanOf, spanBytes}
+use Rattle.decoding.proofs.SpanLaws.{span-far, span-unpaired, span-empty, span-past, span-long, span-token, span-lookup}
 use Rattle.decoding.proofs.lookup.Statement.{statement}
 use Rattle.decoding.proofs.lookup.Tie as tie
 

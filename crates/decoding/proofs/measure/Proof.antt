@@ -5,9 +5,9 @@ use native.Mathlib.Omega.{arith}
 use borrow.Author.Needs.{needs}
 use lib.ListN.{length, getD}
 use Rattle.spec.specs.Decode.{lookup}
-use Rattle.decoding.specs.Span.{has-span, span-size, span-absent}
+use Rattle.decoding.proofs.SpanLaws.{has-span, span-size, span-absent}
 use Rattle.decoding.specs.Measured.{tokens}
-use Rattle.decoding.proofs.Decode.{Passed, passed-none, passed-more, ends-whole, ends-absent, ends-full}
+use Rattle.decoding.proofs.DecodePasses.{Passed, passed-none, passed-more, ends-whole, ends-absent, ends-full}
 use Rattle.decoding.proofs.measure.Statement.{statement}
 use Rattle.decoding.proofs.measure.Tie as tie
 

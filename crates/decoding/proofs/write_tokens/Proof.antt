@@ -4,7 +4,7 @@ use mathlib.Core.Path.{_≡_}
 use Prim.Native.Nat.{_-_, _≤_}
 use native.Mathlib.Omega.{arith}
 use Rattle.decoding.specs.Measured.{tokens}
-use Rattle.decoding.proofs.Decode.{NextToken, next-token, Written, written-none, written-more, written-all}
+use Rattle.decoding.proofs.DecodePasses.{NextToken, next-token, Written, written-none, written-more, written-all}
 use Rattle.decoding.proofs.write_tokens.Statement.{statement}
 use Rattle.decoding.proofs.write_tokens.Tie as tie
 

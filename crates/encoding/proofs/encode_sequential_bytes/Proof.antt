@@ -11,9 +11,9 @@ use borrow.Author.Needs.{needs}
 use Rattle.spec.specs.Memory.{Memory, memory, tooShort}
 use Rattle.spec.specs.Match.{matchOn, found}
 use Rattle.spec.specs.Encode.{complete, unmatched, full}
-use Rattle.encoding.specs.Answers.{matchOf}
-use Rattle.encoding.proofs.Encoding.{Stands, stands-first, stands-next, moves, ends-whole, ends-unmatched, ends-full, answers}
-use Rattle.encoding.proofs.Encoding.{long-enough, refuses}
+use Rattle.matching.specs.Answers.{matchOf}
+use Rattle.encoding.proofs.EncodeTurns.{Stands, stands-first, stands-next, moves, ends-whole, ends-unmatched, ends-full, answers}
+use Rattle.encoding.proofs.EncodeTurns.{long-enough, refuses}
 use Rattle.encoding.proofs.encode_sequential_bytes.Statement.{statement}
 use Rattle.encoding.proofs.encode_sequential_bytes.Tie as tie
 

@@ -3,7 +3,7 @@ use mathlib.Core.Path.{sym, _∙_}
 use Prim.Native.Nat.{_-_, _≤_}
 use native.Mathlib.Omega.{arith}
 use lib.ListN.{length}
-use Rattle.line.specs.Walk.{walk-goes}
+use Rattle.line.proofs.LinesLeft.{walk-goes}
 use borrow.Author.Needs.{needs}
 use Rattle.examples.proofs.all_cases.Statement.{statement}
 use Rattle.examples.proofs.all_cases.Tie as tie

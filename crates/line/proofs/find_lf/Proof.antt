@@ -3,8 +3,8 @@ use mathlib.Core.Path.{_≡_, refl, sym, _∙_}
 use Prim.Native.Nat.{_+_, _-_, _≤_}
 use native.Mathlib.Omega.{arith}
 use lib.ListN.{length, drop}
-use Rattle.spec.specs.Line.{beforeLF}
-use Rattle.line.proofs.Walk.{lf-here, lf-later, lf-none}
+use Rattle.laws.specs.LineWalk.{beforeLF}
+use Rattle.line.proofs.LineTurns.{lf-here, lf-later, lf-none}
 use Rattle.line.proofs.find_lf.Statement.{statement}
 use Rattle.line.proofs.find_lf.Tie as tie
 

@@ -1,5 +1,5 @@
 -- `line::less_cr` meets its contract. Assumes nothing.
-use Rattle.line.proofs.Walk.{end-taken, end-kept, end-empty}
+use Rattle.line.proofs.LineTurns.{end-taken, end-kept, end-empty}
 use borrow.Author.Needs.{needs}
 use Rattle.line.proofs.less_cr.Statement.{statement}
 use Rattle.line.proofs.less_cr.Tie as tie

@@ -1,5 +1,5 @@
 -- `line::next_line` meets its contract. Assumes nothing.
-use Rattle.line.proofs.Walk.{turn-none, found-in, once-in, turn-last, turn-line}
+use Rattle.line.proofs.LineTurns.{turn-none, found-in, once-in, turn-last, turn-line}
 use native.Mathlib.Omega.{arith}
 use borrow.Author.Needs.{needs}
 use Rattle.line.proofs.next_line.Statement.{statement}

@@ -2,8 +2,9 @@
 use mathlib.Core.Path.{sym, ap, _∙_}
 use native.Mathlib.Omega.{arith}
 use Rattle.spec.specs.Check.{given}
-use Rattle.spec.specs.Digits.{digits, digits-le}
-use Rattle.literal.specs.Answers.{numberOf}
+use Rattle.spec.specs.Digits.{digits}
+use Rattle.laws.specs.LiteralLaws.{digits-le}
+use Rattle.numbers.specs.Answers.{numberOf}
 use borrow.Author.Needs.{needs}
 use Rattle.line.proofs.read_id.Statement.{statement}
 use Rattle.line.proofs.read_id.Tie as tie

@@ -2,7 +2,7 @@
 use mathlib.Core.Path.{sym, ap, _∙_}
 use Rattle.spec.specs.Check.{given}
 use Rattle.spec.specs.Digits.{digits}
-use Rattle.literal.specs.Answers.{numberOf}
+use Rattle.numbers.specs.Answers.{numberOf}
 use borrow.Author.Needs.{needs}
 use Rattle.line.proofs.read_length.Statement.{statement}
 use Rattle.line.proofs.read_length.Tie as tie

@@ -7,8 +7,8 @@ use borrow.Author.Needs.{needs}
 use lib.ListN.{length, drop, length-drop}
 use Rattle.spec.specs.Literal.{escape, inside}
 use Rattle.literal.specs.Answers.{left}
-use Rattle.literal.proofs.Numbers.{part-from}
-use Rattle.literal.proofs.Reading.{here, bounds, goes-bad, goes-on, goes-end}
+use Rattle.numbers.proofs.Numbers.{part-from}
+use Rattle.literal.proofs.QuotedTurns.{here, bounds, goes-bad, goes-on, goes-end}
 use Rattle.literal.proofs.inside.Statement.{statement}
 use Rattle.literal.proofs.inside.Tie as tie
 

@@ -1,7 +1,7 @@
 -- `literal::is_quote` meets its contract. Assumes nothing.
 use mathlib.Core.Path.{sym}
 use mathlib.Core.Logic.{inl, inr}
-use Rattle.literal.proofs.Reading.{quote-yes, quote-no}
+use Rattle.literal.proofs.QuotedTurns.{quote-yes, quote-no}
 use Rattle.literal.proofs.is_quote.Statement.{statement}
 use Rattle.literal.proofs.is_quote.Tie as tie
 

@@ -4,8 +4,8 @@ use mathlib.Core.Bool.{true}
 use native.Mathlib.Omega.{arith}
 use Rattle.spec.specs.Literal.{escape, quoted}
 use Rattle.literal.specs.Answers.{left}
-use Rattle.literal.proofs.Numbers.{part-from}
-use Rattle.literal.proofs.Reading.{bad-start, read-empty, read-bytes, read-string, finished}
+use Rattle.numbers.proofs.Numbers.{part-from}
+use Rattle.literal.proofs.QuotedTurns.{bad-start, read-empty, read-bytes, read-string, finished}
 use borrow.Author.Needs.{needs}
 use Rattle.literal.proofs.parse_python_literal_into.Statement.{statement}
 use Rattle.literal.proofs.parse_python_literal_into.Tie as tie

@@ -6,7 +6,7 @@ use native.Mathlib.Omega.{arith}
 use lib.ListN.{length, take, set}
 use lib.Seq.{sets, take-all}
 use Rattle.spec.specs.Utf8.{utf8Of}
-use Rattle.literal.proofs.Reading.{utf8-short, encoded-byte, sets-more}
+use Rattle.literal.proofs.QuotedTurns.{utf8-short, encoded-byte, sets-more}
 use Rattle.literal.proofs.put_point.Statement.{statement}
 use Rattle.literal.proofs.put_point.Tie as tie
 

@@ -6,7 +6,7 @@ use borrow.Author.Tests.{not-true, not-false}
 use lib.ListN.{length}
 use Rattle.spec.specs.Literal.{inside}
 use Rattle.literal.specs.Answers.{left}
-use Rattle.literal.proofs.Reading.{bad-start, too-short, no-quote, not-closed, all-closed}
+use Rattle.literal.proofs.QuotedTurns.{bad-start, too-short, no-quote, not-closed, all-closed}
 use borrow.Author.Needs.{needs}
 use Rattle.literal.proofs.quoted.Statement.{statement}
 use Rattle.literal.proofs.quoted.Tie as tie

@@ -9,21 +9,21 @@ use Rattle.walks.specs.Prelude.{takes, retakes}
 use lib.Dec.{eqb→eq}
 use denote.Ref.{at-last}
 use denote.Struct.Laws as LL
-use Rattle.trie.specs.Run.{room}
+use Rattle.nodes.specs.Run.{room}
 use Rattle.spec.specs.Load.{tableRoom}
-use Rattle.packing.specs.declared.Packed.{Packed}
-use Rattle.packing.proofs.Steps.{holds, fails}
+use Rattle.words.specs.declared.Packed.{Packed}
+use Rattle.packing.proofs.Chained.{holds, fails}
 use Rattle.packing.proofs.Answered.{end-bounds, few, no-block, no-slot, all-put}
-use Rattle.trie.proofs.Node as NodeT
-use Rattle.packing.proofs.Front as FrontT
-use Rattle.packing.proofs.Packed as PackedT
-use Rattle.packing.proofs.words_of_marks as words-of-marks
-use Rattle.packing.proofs.no_room as no-room
+use Rattle.nodes.proofs.Node as NodeT
+use Rattle.slots.proofs.Front as FrontT
+use Rattle.words.proofs.Packed as PackedT
+use Rattle.slots.proofs.words_of_marks as words-of-marks
+use Rattle.words.proofs.no_room as no-room
 use Rattle.packing.proofs.place_all as place-all
-use Rattle.packing.proofs.clear as clear
-use Rattle.packing.proofs.words.put_words as put-words
-use Rattle.packing.proofs.words.put_roots as put-roots
-use Rattle.packing.proofs.words_to as words-to
+use Rattle.cells.proofs.clear_u64 as clear
+use Rattle.packing.proofs.layout.put_words as put-words
+use Rattle.packing.proofs.layout.put_roots as put-roots
+use Rattle.words.proofs.words_to as words-to
 use Rattle.packing.proofs.pack as f
 use Rattle.packing.proofs.pack.Code as code
 
@@ -175,13 +175,13 @@ pack-spec 𝓤 H 𝓜 𝓖 𝓡 =
     entered 𝓤 H (tripleOf 𝓤 H A f.signature (f.spec 𝓤 H A (𝓜 .mem) (𝓡 .run))) (𝓣 .C) (𝓣 .Λ) f.Key.name code.function (code.unfolded 𝓤 H 𝓜 𝓡)
     (λ y. met 𝓤 H A W ps (pl 𝓤 H A W (𝓜 .mem) (𝓡 .run)) (y .0 .0) (y .0 .1) (y .0 .3) (y .0 .4) _ (id⊢ 𝓤 _)
     (WpFn 𝓤 H (𝓣 .C) (𝓣 .Λ) code.function) (λ kn. walk 𝓤 H A W (𝓜 .mem) (𝓡 .run) (y .0 .0) (y .0 .1) (y .0 .3) kn 𝓣
-    (cited 𝓤 H _ 𝓜 𝓡 code.env words-of-marks.Symbol.name words-of-marks.Symbol.routine code.calls-packing·words-of-marks
+    (cited 𝓤 H _ 𝓜 𝓡 code.env words-of-marks.Symbol.name words-of-marks.Symbol.routine code.calls-slots·words-of-marks
     (words-of-marks.Met.met 𝓤 H 𝓜 𝓖 𝓡))
-    (cited 𝓤 H _ 𝓜 𝓡 code.env no-room.Symbol.name no-room.Symbol.routine code.calls-packing·no-room (no-room.Met.met 𝓤 H 𝓜 𝓖 𝓡))
+    (cited 𝓤 H _ 𝓜 𝓡 code.env no-room.Symbol.name no-room.Symbol.routine code.calls-words·no-room (no-room.Met.met 𝓤 H 𝓜 𝓖 𝓡))
     (cited 𝓤 H _ 𝓜 𝓡 code.env place-all.Symbol.name place-all.Symbol.routine code.calls-packing·place-all (place-all.Met.met 𝓤 H 𝓜 𝓖 𝓡))
-    (cited 𝓤 H _ 𝓜 𝓡 code.env clear.Symbol.name clear.Symbol.routine code.calls-packing·clear (clear.Met.met 𝓤 H 𝓜 𝓖 𝓡))
-    (cited 𝓤 H _ 𝓜 𝓡 code.env put-words.Symbol.name put-words.Symbol.routine code.calls-packing·words·put-words
+    (cited 𝓤 H _ 𝓜 𝓡 code.env clear.Symbol.name clear.Symbol.routine code.calls-cells·clear-u64 (clear.Met.met 𝓤 H 𝓜 𝓖 𝓡))
+    (cited 𝓤 H _ 𝓜 𝓡 code.env put-words.Symbol.name put-words.Symbol.routine code.calls-packing·layout·put-words
     (put-words.Met.met 𝓤 H 𝓜 𝓖 𝓡))
-    (cited 𝓤 H _ 𝓜 𝓡 code.env put-roots.Symbol.name put-roots.Symbol.routine code.calls-packing·words·put-roots
+    (cited 𝓤 H _ 𝓜 𝓡 code.env put-roots.Symbol.name put-roots.Symbol.routine code.calls-packing·layout·put-roots
     (put-roots.Met.met 𝓤 H 𝓜 𝓖 𝓡))
-    (cited 𝓤 H _ 𝓜 𝓡 code.env words-to.Symbol.name words-to.Symbol.routine code.calls-packing·words-to (words-to.Met.met 𝓤 H 𝓜 𝓖 𝓡))))
+    (cited 𝓤 H _ 𝓜 𝓡 code.env words-to.Symbol.name words-to.Symbol.routine code.calls-words·words-to (words-to.Met.met 𝓤 H 𝓜 𝓖 𝓡))))

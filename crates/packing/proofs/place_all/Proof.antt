@@ -13,13 +13,13 @@ use denote.Array.{array-lawful}
 use denote.Ref.{at-last}
 use denote.Slice.{sliceVal}
 use denote.Struct.Laws as LL
-use Rattle.trie.specs.Run.{room}
-use Rattle.packing.specs.declared.Front.{Front}
-use Rattle.packing.specs.Search.{Bounds}
+use Rattle.nodes.specs.Run.{room}
+use Rattle.slots.specs.declared.Front.{Front}
+use Rattle.slots.specs.Marks.{Bounds}
 use Rattle.packing.proofs.Chained.{front₀, within₀, bounds-now, all-placed}
-use Rattle.trie.proofs.Node as NodeT
-use Rattle.packing.proofs.Front as FrontT
-use Rattle.packing.proofs.clear as clear
+use Rattle.nodes.proofs.Node as NodeT
+use Rattle.slots.proofs.Front as FrontT
+use Rattle.cells.proofs.clear_u64 as clear
 use Rattle.trie.proofs.thread_all as thread-all
 use Rattle.packing.proofs.place_chain as place-chain
 use Rattle.packing.proofs.place_all as f
@@ -150,7 +150,7 @@ place-all-spec 𝓤 H 𝓜 𝓖 𝓡 =
     entered 𝓤 H (tripleOf 𝓤 H A f.signature (f.spec 𝓤 H A (𝓜 .mem) (𝓡 .run))) (𝓣 .C) (𝓣 .Λ) f.Key.name code.function (code.unfolded 𝓤 H 𝓜 𝓡)
     (λ y. met 𝓤 H A W ps (pl 𝓤 H A W (𝓜 .mem) (𝓡 .run)) (y .0 .0) (y .0 .1) (y .0 .3) (y .0 .4) _ (id⊢ 𝓤 _)
     (WpFn 𝓤 H (𝓣 .C) (𝓣 .Λ) code.function) (λ kn. walk 𝓤 H A W (𝓜 .mem) (𝓡 .run) (y .0 .0) (y .0 .1) (y .0 .3) kn 𝓣
-    (cited 𝓤 H _ 𝓜 𝓡 code.env clear.Symbol.name clear.Symbol.routine code.calls-packing·clear (clear.Met.met 𝓤 H 𝓜 𝓖 𝓡))
+    (cited 𝓤 H _ 𝓜 𝓡 code.env clear.Symbol.name clear.Symbol.routine code.calls-cells·clear-u64 (clear.Met.met 𝓤 H 𝓜 𝓖 𝓡))
     (cited 𝓤 H _ 𝓜 𝓡 code.env thread-all.Symbol.name thread-all.Symbol.routine code.calls-trie·thread-all (thread-all.Met.met 𝓤 H 𝓜 𝓖 𝓡))
     (cited 𝓤 H _ 𝓜 𝓡 code.env place-chain.Symbol.name place-chain.Symbol.routine code.calls-packing·place-chain
     (place-chain.Met.met 𝓤 H 𝓜 𝓖 𝓡))))

@@ -11,15 +11,15 @@ use Prim.Native.Nat.{_*_}
 use mathlib.Core.List.{map}
 use lib.Dec.{eqb→eq, ltb→lt, leb→le, nltb→le, nleb→lt}
 use denote.Struct.Laws as LL
-use Rattle.trie.specs.Run.{room}
-use Rattle.packing.specs.declared.Front.{Front}
-use Rattle.packing.specs.Search.{Bounds}
+use Rattle.nodes.specs.Run.{room}
+use Rattle.slots.specs.declared.Front.{Front}
+use Rattle.slots.specs.Marks.{Bounds}
 use Rattle.packing.proofs.Chained.{bounds-now, Along, Done, at-start, at-none, at-out, at-fuel, at-full, goes-on}
-use Rattle.trie.proofs.Node as NodeT
-use Rattle.packing.proofs.Front as FrontT
+use Rattle.nodes.proofs.Node as NodeT
+use Rattle.slots.proofs.Front as FrontT
 use Rattle.trie.proofs.fetch as fetch
 use Rattle.packing.proofs.place_node as place-node
-use Rattle.packing.proofs.one_less as one-less
+use Rattle.cells.proofs.one_less as one-less
 use Rattle.packing.proofs.place_chain as f
 use Rattle.packing.proofs.place_chain.Code as code
 use Rattle.packing.proofs.place_chain.Code.Mir as parts
@@ -184,4 +184,4 @@ place-chain-spec 𝓤 H 𝓜 𝓖 𝓡 =
     (cited 𝓤 H _ 𝓜 𝓡 code.env fetch.Symbol.name fetch.Symbol.routine code.calls-trie·fetch (fetch.Met.met 𝓤 H 𝓜 𝓖 𝓡))
     (cited 𝓤 H _ 𝓜 𝓡 code.env place-node.Symbol.name place-node.Symbol.routine code.calls-packing·place-node
     (place-node.Met.met 𝓤 H 𝓜 𝓖 𝓡))
-    (cited 𝓤 H _ 𝓜 𝓡 code.env one-less.Symbol.name one-less.Symbol.routine code.calls-packing·one-less (one-less.Met.met 𝓤 H 𝓜 𝓖 𝓡))))
+    (cited 𝓤 H _ 𝓜 𝓡 code.env one-less.Symbol.name one-less.Symbol.routine code.calls-cells·one-less (one-less.Met.met 𝓤 H 𝓜 𝓖 𝓡))))

@@ -8,20 +8,20 @@ use Rattle.walks.specs.Prelude.{le-le, lt-of-lt, var, part, takes}
 use Prim.Native.Nat.{_*_}
 use denote.Ref.{at-last}
 use denote.Struct.Laws as LL
-use Rattle.trie.specs.Run.{room}
-use Rattle.packing.specs.declared.Front.{Front}
-use Rattle.packing.specs.Search.{Bounds}
-use Rattle.packing.proofs.Steps.{below-le}
+use Rattle.nodes.specs.Run.{room}
+use Rattle.slots.specs.declared.Front.{Front}
+use Rattle.slots.specs.Marks.{Bounds}
+use Rattle.slots.proofs.Starts.{below-le}
 use Rattle.packing.proofs.Walked.{turned}
-use Rattle.trie.proofs.Node as NodeT
-use Rattle.packing.proofs.Front as FrontT
-use Rattle.packing.proofs.Placed as PlacedT
+use Rattle.nodes.proofs.Node as NodeT
+use Rattle.slots.proofs.Front as FrontT
+use Rattle.slots.proofs.Placed as PlacedT
 use Rattle.trie.proofs.gather as gather
 use Rattle.trie.proofs.fetch as fetch
 use Rattle.trie.proofs.store as store
-use Rattle.packing.proofs.place_some as place-some
+use Rattle.slots.proofs.place_some as place-some
 use Rattle.packing.proofs.kept as kept
-use Rattle.packing.proofs.passed as passed
+use Rattle.slots.proofs.passed as passed
 use Rattle.packing.proofs.place_node as f
 use Rattle.packing.proofs.place_node.Code as code
 
@@ -154,9 +154,9 @@ place-node-spec 𝓤 H 𝓜 𝓖 𝓡 =
     (λ y. met 𝓤 H A W ps (pl 𝓤 H A W (𝓜 .mem) (𝓡 .run)) (y .0 .0) (y .0 .1) (y .0 .3) (y .0 .4) _ (id⊢ 𝓤 _)
     (WpFn 𝓤 H (𝓣 .C) (𝓣 .Λ) code.function) (λ kn. walk 𝓤 H A W (𝓜 .mem) (𝓡 .run) (y .0 .0) (y .0 .1) (y .0 .3) kn 𝓣
     (cited 𝓤 H _ 𝓜 𝓡 code.env gather.Symbol.name gather.Symbol.routine code.calls-trie·gather (gather.Met.met 𝓤 H 𝓜 𝓖 𝓡))
-    (cited 𝓤 H _ 𝓜 𝓡 code.env place-some.Symbol.name place-some.Symbol.routine code.calls-packing·place-some
+    (cited 𝓤 H _ 𝓜 𝓡 code.env place-some.Symbol.name place-some.Symbol.routine code.calls-slots·place-some
     (place-some.Met.met 𝓤 H 𝓜 𝓖 𝓡))
     (cited 𝓤 H _ 𝓜 𝓡 code.env fetch.Symbol.name fetch.Symbol.routine code.calls-trie·fetch (fetch.Met.met 𝓤 H 𝓜 𝓖 𝓡))
     (cited 𝓤 H _ 𝓜 𝓡 code.env kept.Symbol.name kept.Symbol.routine code.calls-packing·kept (kept.Met.met 𝓤 H 𝓜 𝓖 𝓡))
     (cited 𝓤 H _ 𝓜 𝓡 code.env store.Symbol.name store.Symbol.routine code.calls-trie·store (store.Met.met 𝓤 H 𝓜 𝓖 𝓡))
-    (cited 𝓤 H _ 𝓜 𝓡 code.env passed.Symbol.name passed.Symbol.routine code.calls-packing·passed (passed.Met.met 𝓤 H 𝓜 𝓖 𝓡))))
+    (cited 𝓤 H _ 𝓜 𝓡 code.env passed.Symbol.name passed.Symbol.routine code.calls-slots·passed (passed.Met.met 𝓤 H 𝓜 𝓖 𝓡))))

@@ -6,8 +6,8 @@ use borrow.Author.Needs.{needs}
 use Rattle.replay.proofs.decode_case.Statement.{statement}
 use Rattle.replay.proofs.decode_case.Tie as tie
 
-least-requires : tie.Need-least-requires
-least-requires c κs = search needs
+smaller-requires : tie.Need-smaller-requires
+smaller-requires c κs = search needs
 
 sub-read-ids : tie.Need-sub-read-ids
 sub-read-ids c = search needs
@@ -24,8 +24,8 @@ read-ids-requires c κs = search needs
 one-requires : tie.Need-one-requires
 one-requires c κs = search needs
 
-least-requires-2 : tie.Need-least-requires-2
-least-requires-2 c κs = search needs
+smaller-requires-2 : tie.Need-smaller-requires-2
+smaller-requires-2 c κs = search needs
 
 slice-reshare-prefix-decode : tie.Need-slice-reshare-prefix-decode
 slice-reshare-prefix-decode c = search needs
@@ -60,14 +60,14 @@ slice-aggregate-write c = search needs
 write-requires : tie.Need-write-requires
 write-requires c κs = search needs
 
-array-read-size : tie.Need-array-read-size
-array-read-size c = search needs
+array-read-u64-to-usize : tie.Need-array-read-u64-to-usize
+array-read-u64-to-usize c = search needs
 
-size-requires : tie.Need-size-requires
-size-requires c κs = search needs
+u64-to-usize-requires : tie.Need-u64-to-usize-requires
+u64-to-usize-requires c κs = search needs
 
-least-requires-3 : tie.Need-least-requires-3
-least-requires-3 c κs = search needs
+smaller-requires-3 : tie.Need-smaller-requires-3
+smaller-requires-3 c κs = search needs
 
 slice-reshare-prefix-write-bytes : tie.Need-slice-reshare-prefix-write-bytes
 slice-reshare-prefix-write-bytes c = search needs
@@ -91,13 +91,13 @@ pub decode-case-spec : {M : Type 1} → statement M
 decode-case-spec =
     tie.close
     (tie.spec
-    least-requires
+    smaller-requires
     sub-read-ids
     part-read-ids-start
     part-read-ids-end
     read-ids-requires
     one-requires
-    least-requires-2
+    smaller-requires-2
     slice-reshare-prefix-decode
     slice-aggregate-decode
     slice-relend-prefix-decode
@@ -109,9 +109,9 @@ decode-case-spec =
     write-report-requires
     slice-aggregate-write
     write-requires
-    array-read-size
-    size-requires
-    least-requires-3
+    array-read-u64-to-usize
+    u64-to-usize-requires
+    smaller-requires-3
     slice-reshare-prefix-write-bytes
     slice-aggregate-write-bytes
     write-bytes-requires

@@ -9,11 +9,11 @@ use Rattle.replay.proofs.encode_case.Tie as tie
 one-requires : tie.Need-one-requires
 one-requires c κs = search needs
 
-least-requires : tie.Need-least-requires
-least-requires c κs = search needs
+smaller-requires : tie.Need-smaller-requires
+smaller-requires c κs = search needs
 
-least-requires-2 : tie.Need-least-requires-2
-least-requires-2 c κs = search needs
+smaller-requires-2 : tie.Need-smaller-requires-2
+smaller-requires-2 c κs = search needs
 
 sub-rwkv-encode : tie.Need-sub-rwkv-encode
 sub-rwkv-encode c = search needs
@@ -45,11 +45,11 @@ array-read-write-report-3 c = search needs
 write-report-requires : tie.Need-write-report-requires
 write-report-requires c κs = search needs
 
-array-read-size : tie.Need-array-read-size
-array-read-size c = search needs
+array-read-u64-to-usize : tie.Need-array-read-u64-to-usize
+array-read-u64-to-usize c = search needs
 
-size-requires : tie.Need-size-requires
-size-requires c κs = search needs
+u64-to-usize-requires : tie.Need-u64-to-usize-requires
+u64-to-usize-requires c κs = search needs
 
 write-ids-requires : tie.Need-write-ids-requires
 write-ids-requires c κs = search needs
@@ -65,8 +65,8 @@ encode-case-spec =
     tie.close
     (tie.spec
     one-requires
-    least-requires
-    least-requires-2
+    smaller-requires
+    smaller-requires-2
     sub-rwkv-encode
     part-rwkv-encode-start
     part-rwkv-encode-end
@@ -77,8 +77,8 @@ encode-case-spec =
     array-read-write-report-2
     array-read-write-report-3
     write-report-requires
-    array-read-size
-    size-requires
+    array-read-u64-to-usize
+    u64-to-usize-requires
     write-ids-requires
     same-length
     returns)

@@ -6,53 +6,53 @@ use borrow.Author.Needs.{needs}
 use Rattle.replay.proofs.load_case.Statement.{statement}
 use Rattle.replay.proofs.load_case.Tie as tie
 
-least-requires : tie.Need-least-requires
-least-requires c κs = search needs
+smaller-requires : tie.Need-smaller-requires
+smaller-requires c κs = search needs
 
 one-requires : tie.Need-one-requires
 one-requires c κs = search needs
 
-mul-least : tie.Need-mul-least
-mul-least c = search needs
+mul-smaller : tie.Need-mul-smaller
+mul-smaller c = search needs
 
 one-requires-2 : tie.Need-one-requires-2
 one-requires-2 c κs = search needs
 
-add-least : tie.Need-add-least
-add-least c = search needs
+add-smaller : tie.Need-add-smaller
+add-smaller c = search needs
 
-least-requires-2 : tie.Need-least-requires-2
-least-requires-2 c κs = search needs
+smaller-requires-2 : tie.Need-smaller-requires-2
+smaller-requires-2 c κs = search needs
 
 one-requires-3 : tie.Need-one-requires-3
 one-requires-3 c κs = search needs
 
-mul-least-2 : tie.Need-mul-least-2
-mul-least-2 c = search needs
+mul-smaller-2 : tie.Need-mul-smaller-2
+mul-smaller-2 c = search needs
 
 one-requires-4 : tie.Need-one-requires-4
 one-requires-4 c κs = search needs
 
-add-least-2 : tie.Need-add-least-2
-add-least-2 c = search needs
+add-smaller-2 : tie.Need-add-smaller-2
+add-smaller-2 c = search needs
 
-least-requires-3 : tie.Need-least-requires-3
-least-requires-3 c κs = search needs
+smaller-requires-3 : tie.Need-smaller-requires-3
+smaller-requires-3 c κs = search needs
 
 one-requires-5 : tie.Need-one-requires-5
 one-requires-5 c κs = search needs
 
-mul-least-3 : tie.Need-mul-least-3
-mul-least-3 c = search needs
+mul-smaller-3 : tie.Need-mul-smaller-3
+mul-smaller-3 c = search needs
 
-least-requires-4 : tie.Need-least-requires-4
-least-requires-4 c κs = search needs
+smaller-requires-4 : tie.Need-smaller-requires-4
+smaller-requires-4 c κs = search needs
 
 one-requires-6 : tie.Need-one-requires-6
 one-requires-6 c κs = search needs
 
-least-requires-5 : tie.Need-least-requires-5
-least-requires-5 c κs = search needs
+smaller-requires-5 : tie.Need-smaller-requires-5
+smaller-requires-5 c κs = search needs
 
 sub-load-all : tie.Need-sub-load-all
 sub-load-all c = search needs
@@ -103,22 +103,22 @@ pub load-case-spec : {M : Type 1} → statement M
 load-case-spec =
     tie.close
     (tie.spec
-    least-requires
+    smaller-requires
     one-requires
-    mul-least
+    mul-smaller
     one-requires-2
-    add-least
-    least-requires-2
+    add-smaller
+    smaller-requires-2
     one-requires-3
-    mul-least-2
+    mul-smaller-2
     one-requires-4
-    add-least-2
-    least-requires-3
+    add-smaller-2
+    smaller-requires-3
     one-requires-5
-    mul-least-3
-    least-requires-4
+    mul-smaller-3
+    smaller-requires-4
     one-requires-6
-    least-requires-5
+    smaller-requires-5
     sub-load-all
     part-load-all-start
     part-load-all-end

@@ -17,10 +17,10 @@ use denote.Laws.{Is}
 use denote.Slice.{sliceVal}
 use denote.Struct.Laws as LL
 use Rattle.spec.specs.Memory.{Memory as Lent-memory}
-use Rattle.trie.specs.declared.Node.{Node}
-use Rattle.trie.specs.Run.{blank}
-use Rattle.trie.proofs.Node as NodeT
-use Rattle.rwkv_tokenizer.specs.Report.{LoadReported}
+use Rattle.nodes.specs.declared.Node.{Node}
+use Rattle.nodes.specs.Run.{blank}
+use Rattle.nodes.proofs.Node as NodeT
+use Rattle.reports.specs.Report.{LoadReported}
 use Rattle.rwkv_tokenizer.proofs.rwkv_load as rwkv-load
 use Rattle.replay.proofs.load_in as f
 use Rattle.replay.proofs.load_in.Code as code

@@ -21,8 +21,8 @@ part-unhex-end c = search needs
 unhex-requires : tie.Need-unhex-requires
 unhex-requires c κs = search needs
 
-least-requires : tie.Need-least-requires
-least-requires c κs = search needs
+smaller-requires : tie.Need-smaller-requires
+smaller-requires c κs = search needs
 
 one-requires : tie.Need-one-requires
 one-requires c κs = search needs
@@ -105,7 +105,7 @@ one-case-spec =
     part-unhex-start
     part-unhex-end
     unhex-requires
-    least-requires
+    smaller-requires
     one-requires
     part-requires
     part-requires-2

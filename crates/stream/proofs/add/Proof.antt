@@ -9,8 +9,8 @@ use denote.Ref.{now}
 use borrow.Author.Needs.{needs}
 use Rattle.spec.specs.Memory.{Memory, memory, tooShort}
 use Rattle.spec.specs.Stream.{StreamRecord, Call, add, callRefusal}
-use Rattle.stream.specs.Answers.{recordOf, refusalOf}
-use Rattle.stream.proofs.Refusing.{Passes, passes, long-enough}
+use Rattle.stream_record.specs.Answers.{recordOf, refusalOf}
+use Rattle.stream_record.proofs.Refusing.{Passes, passes, long-enough}
 use Rattle.stream.proofs.Holding.{length-as}
 use Rattle.stream.proofs.Calling.{gives-short, gives-refused, gives-added}
 use Rattle.stream.proofs.add.Statement.{statement}

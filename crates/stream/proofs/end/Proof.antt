@@ -15,8 +15,8 @@ use Rattle.spec.specs.Encode.{encodeOn}
 use Rattle.spec.specs.Stream.{StreamRecord, Call, add, end, callRefusal}
 use Rattle.encoding.specs.declared.Encoded.{Encoded}
 use Rattle.encoding.specs.Answers as encoding
-use Rattle.stream.specs.Answers.{recordOf, refusalOf}
-use Rattle.stream.proofs.Refusing.{Passes, passes, end-as-add}
+use Rattle.stream_record.specs.Answers.{recordOf, refusalOf}
+use Rattle.stream_record.proofs.Refusing.{Passes, passes, end-as-add}
 use Rattle.stream.proofs.Holding.{length-as}
 use Rattle.stream.proofs.Calling.{gives-short, gives-refused}
 use Rattle.stream.proofs.Ending.{says-none, says-other, gives-closed, gives-stopped}

@@ -14,11 +14,11 @@ use Rattle.stream.proofs.join.Tie as tie
 reach-requires : tie.Need-reach-requires
 reach-requires c κs = search needs
 
-copy-bytes-requires : tie.Need-copy-bytes-requires
-copy-bytes-requires c κs = search needs
+copy-requires : tie.Need-copy-requires
+copy-requires c κs = search needs
 
-copy-bytes-requires-2 : tie.Need-copy-bytes-requires-2
-copy-bytes-requires-2 c κs = search needs
+copy-requires-2 : tie.Need-copy-requires-2
+copy-requires-2 c κs = search needs
 
 add-result : tie.Need-add-result
 add-result c = search needs
@@ -33,8 +33,8 @@ returns c =
     let e = c .before .before .before .before .before .before .before .before .reach .ensures in (
       omega arith,
       ap (take (length (now (a .held)) + k))
-          (c .before .before .copy-bytes2 .ensures ∙ ap (λ (w : List ℕ). paste w (length (now (a .held))) (now (a .piece)) k)
-          (c .before .before .before .before .before .before .copy-bytes .ensures))
+          (c .before .before .copy2 .ensures ∙ ap (λ (w : List ℕ). paste w (length (now (a .held))) (now (a .piece)) k)
+          (c .before .before .before .before .before .before .copy .ensures))
           ∙ joined (now (a .held)) (now (a .piece)) (now (a .window)) (length (now (a .held))) k refl (omega arith) e (omega arith),
     )
 
@@ -43,8 +43,8 @@ join-spec =
     tie.close
     (tie.spec
     reach-requires
-    copy-bytes-requires
-    copy-bytes-requires-2
+    copy-requires
+    copy-requires-2
     add-result
     same-length
     returns)

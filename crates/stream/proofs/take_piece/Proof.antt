@@ -10,10 +10,11 @@ use denote.Ref.{now}
 use borrow.Author.Needs.{needs}
 use Rattle.spec.specs.Memory.{Memory, memory}
 use Rattle.spec.specs.Stream.{holding, stoppedAt}
-use Rattle.stream.specs.declared.Ran.{Ran}
-use Rattle.stream.specs.declared.Ran.the-variants.{Through, Waiting, Stuck}
-use Rattle.stream.specs.declared.Answer.the-variants.{Stopped}
-use Rattle.stream.specs.Running.{reached, RunsTo}
+use Rattle.runs.specs.declared.Ran.{Ran}
+use Rattle.runs.specs.declared.Ran.the-variants.{Through, Waiting, Stuck}
+use Rattle.stream_record.specs.declared.Answer.the-variants.{Stopped}
+use Rattle.stream.specs.Handing.{reached}
+use Rattle.runs.specs.Running.{RunsTo}
 use Rattle.stream.proofs.Holding.{part-within}
 use Rattle.stream.proofs.Windows.{window}
 use Rattle.stream.proofs.Adding.{waits-few, held-waiting, held-stuck, held-through}

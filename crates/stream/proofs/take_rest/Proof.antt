@@ -8,9 +8,9 @@ use denote.Ref.{now}
 use borrow.Author.Needs.{needs}
 use Rattle.spec.specs.Memory.{Memory, memory}
 use Rattle.spec.specs.Stream.{holding}
-use Rattle.stream.specs.declared.Ran.{Ran}
-use Rattle.stream.specs.declared.Ran.the-variants.{Through, Waiting, Stuck}
-use Rattle.stream.specs.Running.{RunsTo}
+use Rattle.runs.specs.declared.Ran.{Ran}
+use Rattle.runs.specs.declared.Ran.the-variants.{Through, Waiting, Stuck}
+use Rattle.runs.specs.Running.{RunsTo}
 use Rattle.stream.proofs.Holding.{part-end}
 use Rattle.stream.proofs.Adding.{waits-few, rest-through, rest-waiting, rest-stuck}
 use Rattle.stream.proofs.take_rest.Statement.{statement}

@@ -6,9 +6,10 @@ use mathlib.Core.List.{List}
 use Prim.Native.Nat.{ℕ, _+_, _-_, _≤_, _<_}
 use native.Mathlib.Omega.{arith}
 use lib.ListN.{length, drop}
-use Rattle.spec.specs.Utf8.{char, stepOf, firstBad, firstBadFrom, first-bad-zero}
+use Rattle.spec.specs.Utf8.{char, stepOf, firstBad, firstBadFrom}
+use Rattle.laws.specs.Utf8Laws.{first-bad-zero}
 use Rattle.utf8.specs.Means.{stepMeans}
-use Rattle.utf8.proofs.Steps.{no-char, char-size, ascii-char, first-char, first-other, first-end}
+use Rattle.utf8.proofs.StepTurns.{no-char, char-size, ascii-char, first-char, first-other, first-end}
 use Rattle.utf8.proofs.first_bad.Statement.{statement}
 use Rattle.utf8.proofs.first_bad.Tie as tie
 

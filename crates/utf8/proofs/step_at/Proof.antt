@@ -8,7 +8,7 @@ use native.Mathlib.Omega.{arith}
 use lib.ListN.{length, drop}
 use Rattle.spec.specs.Utf8.{follow, stepOf}
 use Rattle.utf8.specs.Means.{ranges, leadMeans}
-use Rattle.utf8.proofs.Steps.{step-past, step-first, walk-done, walk-cut, walk-bad, walk-on}
+use Rattle.utf8.proofs.StepTurns.{step-past, step-first, walk-done, walk-cut, walk-bad, walk-on}
 use Rattle.utf8.proofs.step_at.Statement.{statement}
 use Rattle.utf8.proofs.step_at.Tie as tie
 

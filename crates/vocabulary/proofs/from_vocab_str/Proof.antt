@@ -4,10 +4,10 @@ use Rattle.walks.specs.Prelude.{tables, tablesOf, Given, _$_, !, by, look, fals
 use Rattle.walks.specs.Prelude.{Meets, tripleOf, atExit, entered, cited, Par, value, copied, lent, Lfs, Shs, Dens, Ends, Known, spelled}
 use Rattle.walks.specs.Prelude.{fitted, met, ends-with, Walked, starts, reborrow, Bind, at, calls-of, copies, var, takes, leaves, told0}
 use Rattle.walks.specs.Prelude.{told2, said2, bool-plain}
-use Rattle.trie.proofs.Node as NodeT
-use Rattle.vocabulary.specs.declared.Load.{Load}
+use Rattle.nodes.proofs.Node as NodeT
+use Rattle.answers.specs.declared.Load.{Load}
 use Rattle.vocabulary.proofs.Types.{answer}
-use Rattle.vocabulary.proofs.Load as LoadT
+use Rattle.answers.proofs.Load as LoadT
 use Rattle.vocabulary.proofs.from_vocab_str_mode as mode
 use Rattle.vocabulary.proofs.from_vocab_str as f
 use Rattle.vocabulary.proofs.from_vocab_str.Code as code

@@ -10,16 +10,17 @@ use denote.Struct.Laws as LL
 use Rattle.spec.specs.Memory.{memory}
 use Rattle.spec.specs.Load.{tableRoom}
 use Rattle.laws.specs.Reads.{long-enough}
-use Rattle.vocabulary.specs.Settling.{loads-early, not-early, loads-text}
-use Rattle.vocabulary.specs.declared.Load.{Load}
-use Rattle.vocabulary.specs.declared.LoadRefusal.{LoadRefusal}
+use Rattle.answers.proofs.Settling.{loads-early, loads-text}
+use Rattle.source.proofs.Early.{not-early}
+use Rattle.answers.specs.declared.Load.{Load}
+use Rattle.source.specs.declared.LoadRefusal.{LoadRefusal}
 use Rattle.vocabulary.proofs.Types.{byte, place, refusal, answer}
 use Rattle.vocabulary.proofs.Passing.{ps, lists}
-use Rattle.vocabulary.proofs.Load as LoadT
-use Rattle.vocabulary.proofs.LoadRefusal as RefusalT
-use Rattle.vocabulary.proofs.Place as PlaceT
-use Rattle.vocabulary.proofs.early_refusal as early-refusal
-use Rattle.vocabulary.proofs.refused as refused
+use Rattle.answers.proofs.Load as LoadT
+use Rattle.source.proofs.LoadRefusal as RefusalT
+use Rattle.source.proofs.Place as PlaceT
+use Rattle.source.proofs.early_refusal as early-refusal
+use Rattle.answers.proofs.refused as refused
 use Rattle.vocabulary.proofs.load_text as load-text
 use Rattle.vocabulary.proofs.from_vocab_str_mode as f
 use Rattle.vocabulary.proofs.from_vocab_str_mode.Code as code
@@ -115,8 +116,8 @@ from-vocab-str-mode-spec 𝓤 H 𝓜 𝓖 𝓡 =
     (code.unfolded 𝓤 H 𝓜 𝓡) (λ y. met 𝓤 H A W ps (pl 𝓤 H A W (𝓜 .mem) (𝓡 .run)) (y .0 .0) (y .0 .1) (y .0 .3) (y .0 .4) (Unit {0})
     (told0 𝓤 H A (f.clauses 𝓤 H A (𝓜 .mem) (𝓡 .run) (y .0 .0) (y .0 .3) .requires tt))
     (WpFn 𝓤 H (𝓣 .C) (𝓣 .Λ) code.function) (λ kn _. walk 𝓤 H A W (𝓜 .mem) (𝓡 .run) (y .0 .0) (y .0 .1) (y .0 .3) kn 𝓣
-    (cited 𝓤 H _ 𝓜 𝓡 code.env early-refusal.Symbol.name early-refusal.Symbol.routine code.calls-vocabulary·early-refusal
+    (cited 𝓤 H _ 𝓜 𝓡 code.env early-refusal.Symbol.name early-refusal.Symbol.routine code.calls-source·early-refusal
     (early-refusal.Met.met 𝓤 H 𝓜 𝓖 𝓡))
-    (cited 𝓤 H _ 𝓜 𝓡 code.env refused.Symbol.name refused.Symbol.routine code.calls-vocabulary·refused (refused.Met.met 𝓤 H 𝓜 𝓖 𝓡))
+    (cited 𝓤 H _ 𝓜 𝓡 code.env refused.Symbol.name refused.Symbol.routine code.calls-answers·refused (refused.Met.met 𝓤 H 𝓜 𝓖 𝓡))
     (cited 𝓤 H _ 𝓜 𝓡 code.env load-text.Symbol.name load-text.Symbol.routine code.calls-vocabulary·load-text
     (load-text.Met.met 𝓤 H 𝓜 𝓖 𝓡))))

@@ -14,20 +14,20 @@ use denote.Struct.Laws as LL
 use Rattle.spec.specs.Memory.{memory}
 use Rattle.spec.specs.Load.{tableRoom}
 use Rattle.laws.specs.Reads.{LongEnough}
-use Rattle.builder.proofs.Build as BuildT
-use Rattle.builder.proofs.Finished as FinishedT
-use Rattle.builder.proofs.begin as begin
+use Rattle.tokens.proofs.Build as BuildT
+use Rattle.ending.proofs.Finished as FinishedT
+use Rattle.tokens.proofs.begin as begin
 use Rattle.builder.proofs.finish as finish
-use Rattle.vocabulary.specs.Settling.{refused-settles, finished-settles, lines-made, long-kept}
-use Rattle.vocabulary.specs.declared.Load.{Load}
+use Rattle.answers.proofs.Settling.{refused-settles, finished-settles, lines-made, long-kept}
+use Rattle.answers.specs.declared.Load.{Load}
 use Rattle.vocabulary.proofs.Types.{byte, size, build, taking, finish-end, answer}
 use Rattle.vocabulary.proofs.Passing.{five, ps, p-lines, p-refuse, p-finish, p-settle, lists, to-five, to-lines, to-refuse}
 use Rattle.vocabulary.proofs.Passing.{to-finish, to-settle}
-use Rattle.vocabulary.proofs.Load as LoadT
-use Rattle.vocabulary.proofs.lines.Taking as TakingT
+use Rattle.answers.proofs.Load as LoadT
+use Rattle.answers.proofs.taking.Taking as TakingT
 use Rattle.vocabulary.proofs.lines.take_lines as take-lines
-use Rattle.vocabulary.proofs.refuse_line as refuse-line
-use Rattle.vocabulary.proofs.settle as settle
+use Rattle.answers.proofs.refuse_line as refuse-line
+use Rattle.answers.proofs.settle as settle
 use Rattle.vocabulary.proofs.load_text as f
 use Rattle.vocabulary.proofs.load_text.Code as code
 
@@ -170,10 +170,10 @@ load-text-spec 𝓤 H 𝓜 𝓖 𝓡 =
     entered 𝓤 H (tripleOf 𝓤 H A f.signature (f.spec 𝓤 H A (𝓜 .mem) (𝓡 .run))) (𝓣 .C) (𝓣 .Λ) f.Key.name code.function
     (code.unfolded 𝓤 H 𝓜 𝓡) (λ y. met 𝓤 H A W ps (pl 𝓤 H A W (𝓜 .mem) (𝓡 .run)) (y .0 .0) (y .0 .1) (y .0 .3) (y .0 .4) _ (id⊢ 𝓤 _)
     (WpFn 𝓤 H (𝓣 .C) (𝓣 .Λ) code.function) (λ kn. walk 𝓤 H A W (𝓜 .mem) (𝓡 .run) (y .0 .0) (y .0 .1) (y .0 .3) kn 𝓣
-    (cited 𝓤 H _ 𝓜 𝓡 code.env begin.Symbol.name begin.Symbol.routine code.calls-builder·begin (begin.Met.met 𝓤 H 𝓜 𝓖 𝓡))
+    (cited 𝓤 H _ 𝓜 𝓡 code.env begin.Symbol.name begin.Symbol.routine code.calls-tokens·begin (begin.Met.met 𝓤 H 𝓜 𝓖 𝓡))
     (cited 𝓤 H _ 𝓜 𝓡 code.env take-lines.Symbol.name take-lines.Symbol.routine code.calls-vocabulary·lines·take-lines
     (take-lines.Met.met 𝓤 H 𝓜 𝓖 𝓡))
-    (cited 𝓤 H _ 𝓜 𝓡 code.env refuse-line.Symbol.name refuse-line.Symbol.routine code.calls-vocabulary·refuse-line
+    (cited 𝓤 H _ 𝓜 𝓡 code.env refuse-line.Symbol.name refuse-line.Symbol.routine code.calls-answers·refuse-line
     (refuse-line.Met.met 𝓤 H 𝓜 𝓖 𝓡))
     (cited 𝓤 H _ 𝓜 𝓡 code.env finish.Symbol.name finish.Symbol.routine code.calls-builder·finish (finish.Met.met 𝓤 H 𝓜 𝓖 𝓡))
-    (cited 𝓤 H _ 𝓜 𝓡 code.env settle.Symbol.name settle.Symbol.routine code.calls-vocabulary·settle (settle.Met.met 𝓤 H 𝓜 𝓖 𝓡))))
+    (cited 𝓤 H _ 𝓜 𝓡 code.env settle.Symbol.name settle.Symbol.routine code.calls-answers·settle (settle.Met.met 𝓤 H 𝓜 𝓖 𝓡))))

@@ -2,7 +2,7 @@
 use borrow.Author.Needs.{needs}
 use native.Mathlib.Omega.{arith}
 use lib.ListN.{length-set}
-use Rattle.decoding.proofs.Paste.{eight-stores}
+use Rattle.decoding.proofs.TokenCopies.{eight-stores}
 use Rattle.decoding.proofs.copy.copy8.Statement.{statement}
 use Rattle.decoding.proofs.copy.copy8.Tie as tie
 

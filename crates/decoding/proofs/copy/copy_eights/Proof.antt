@@ -5,7 +5,8 @@ use Prim.Native.Nat.{ℕ, _+_, _-_, _<_}
 use native.Mathlib.Omega.{arith}
 use lib.ListN.{length, drop}
 use lib.Seq.{paste, paste-zero}
-use Rattle.decoding.proofs.Paste.{paste-next, placed}
+use Rattle.cells.proofs.Pasted.{paste-next}
+use Rattle.decoding.proofs.TokenCopies.{placed}
 use Rattle.decoding.proofs.copy.copy_eights.Statement.{statement}
 use Rattle.decoding.proofs.copy.copy_eights.Tie as tie
 

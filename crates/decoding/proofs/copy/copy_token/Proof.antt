@@ -2,7 +2,7 @@
 use Prim.Native.Nat.{_+_}
 use native.Mathlib.Omega.{arith}
 use lib.ListN.{take, drop}
-use Rattle.decoding.proofs.Paste.{placed, placed-later}
+use Rattle.decoding.proofs.TokenCopies.{placed, placed-later}
 use borrow.Author.Needs.{needs}
 use Rattle.decoding.proofs.copy.copy_token.Statement.{statement}
 use Rattle.decoding.proofs.copy.copy_token.Tie as tie
@@ -43,8 +43,8 @@ returns-2 c =
     placed-later (a .dst .now) (a .at) (take (a .len) (drop (a .start) (a .src .now))) (a .at + a .len + 8) (a .end) _
     (omega arith) (c .before .before .copy-eights .ensures)
 
-copy-bytes-requires : tie.Need-copy-bytes-requires
-copy-bytes-requires c κs = search needs
+copy-requires : tie.Need-copy-requires
+copy-requires c κs = search needs
 
 same-length-3 : tie.Need-same-length-3
 same-length-3 c = search needs
@@ -52,7 +52,7 @@ same-length-3 c = search needs
 returns-3 : tie.Need-returns-3
 returns-3 c =
     let a = c .before .before .before .before .before .before .before .args in
-    rw (c .before .before .copy-bytes .ensures)
+    rw (c .before .before .copy .ensures)
     (placed (a .dst .now) (a .at) (a .src .now) (a .start) (a .len) (a .len) (a .end) (omega arith) (omega arith) (omega arith)
     (omega arith))
 
@@ -70,6 +70,6 @@ copy-token-spec =
     copy-eights-requires
     same-length-2
     returns-2
-    copy-bytes-requires
+    copy-requires
     same-length-3
     returns-3)

@@ -36,17 +36,17 @@ slice-aggregate-decode-over c =
     let e = c .before .before .before .read-ids .ensures in
     sym (length-take-le _ _ (omega arith))
 
-shared-slice-read-count : tie.Need-shared-slice-read-count
-shared-slice-read-count c = search needs
+shared-slice-read-u8-to-usize : tie.Need-shared-slice-read-u8-to-usize
+shared-slice-read-u8-to-usize c = search needs
 
-count-requires : tie.Need-count-requires
-count-requires c κs = search needs
+u8-to-usize-requires : tie.Need-u8-to-usize-requires
+u8-to-usize-requires c κs = search needs
 
 array-borrow-prefix-out : tie.Need-array-borrow-prefix-out
-array-borrow-prefix-out c = search needs
+array-borrow-prefix-out c = omega (arith, c .before .shared-slice-known3 .given 1)
 
 slice-aggregate-decode-over-2 : tie.Need-slice-aggregate-decode-over-2
-slice-aggregate-decode-over-2 c = sym (length-take-le _ _ (omega (arith, c .before .count .ensures)))
+slice-aggregate-decode-over-2 c = sym (length-take-le _ _ (omega (arith, c .before .before .shared-slice-known3 .given 1)))
 
 decode-over-requires : tie.Need-decode-over-requires
 decode-over-requires c κs = search needs
@@ -67,8 +67,8 @@ decode-case-spec =
     shared-slice-read-decode-over
     array-share-prefix-ids
     slice-aggregate-decode-over
-    shared-slice-read-count
-    count-requires
+    shared-slice-read-u8-to-usize
+    u8-to-usize-requires
     array-borrow-prefix-out
     slice-aggregate-decode-over-2
     decode-over-requires

@@ -14,11 +14,11 @@ abbrev μ-loop : tie.MeasureT-loop
 loop-holds : tie.Need-loop-holds Inv-loop μ-loop
 loop-holds c = search needs
 
-shared-slice-read-wide-byte : tie.Need-shared-slice-read-wide-byte Inv-loop μ-loop
-shared-slice-read-wide-byte c = search needs
+shared-slice-read-u8-to-u64 : tie.Need-shared-slice-read-u8-to-u64 Inv-loop μ-loop
+shared-slice-read-u8-to-u64 c = search needs
 
-wide-byte-requires : tie.Need-wide-byte-requires Inv-loop μ-loop
-wide-byte-requires c κs = search needs
+u8-to-u64-requires : tie.Need-u8-to-u64-requires Inv-loop μ-loop
+u8-to-u64-requires c κs = search needs
 
 mixed-requires : tie.Need-mixed-requires Inv-loop μ-loop
 mixed-requires c κs = search needs
@@ -42,8 +42,8 @@ of-bytes-spec =
     Inv-loop
     μ-loop
     loop-holds
-    shared-slice-read-wide-byte
-    wide-byte-requires
+    shared-slice-read-u8-to-u64
+    u8-to-u64-requires
     mixed-requires
     add-i
     loop-less

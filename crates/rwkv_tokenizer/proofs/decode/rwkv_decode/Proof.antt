@@ -2,23 +2,19 @@
 use borrow.Author.Needs.{needs}
 use mathlib.Core.Path.{ap, _∙_}
 use Rattle.spec.specs.Answer.{Answer}
-use Rattle.rwkv_tokenizer.specs.Report.{reportOf}
+use Rattle.reports.specs.Report.{reportOf}
 use Rattle.rwkv_tokenizer.proofs.decode.rwkv_decode.Statement.{statement}
 use Rattle.rwkv_tokenizer.proofs.decode.rwkv_decode.Tie as tie
 
--- src/decode.rt:75:9
 decode-bytes-requires : tie.Need-decode-bytes-requires
 decode-bytes-requires c κs = search needs
 
--- src/decode.rt:76:5
 reported-requires : tie.Need-reported-requires
 reported-requires c κs = search needs
 
--- src/decode.rt:60:1
 same-length : tie.Need-same-length
 same-length c = search needs
 
--- src/decode.rt:60:1
 returns : tie.Need-returns
 returns c =
     let d = c .before .before .before .before .decode-bytes .ensures in

@@ -2,23 +2,19 @@
 use borrow.Author.Needs.{needs}
 use mathlib.Core.Path.{ap, _∙_}
 use Rattle.spec.specs.Answer.{Answer}
-use Rattle.rwkv_tokenizer.specs.Report.{reportOf}
+use Rattle.reports.specs.Report.{reportOf}
 use Rattle.rwkv_tokenizer.proofs.decode.rwkv_decode_lossy.Statement.{statement}
 use Rattle.rwkv_tokenizer.proofs.decode.rwkv_decode_lossy.Tie as tie
 
--- src/decode.rt:115:9
 decode-lossy-requires : tie.Need-decode-lossy-requires
 decode-lossy-requires c κs = search needs
 
--- src/decode.rt:116:5
 reported-requires : tie.Need-reported-requires
 reported-requires c κs = search needs
 
--- src/decode.rt:100:1
 same-length : tie.Need-same-length
 same-length c = search needs
 
--- src/decode.rt:100:1
 returns : tie.Need-returns
 returns c =
     let d = c .before .before .before .before .decode-lossy .ensures in

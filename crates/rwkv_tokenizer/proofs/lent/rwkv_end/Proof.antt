@@ -5,10 +5,10 @@ use Rattle.walks.specs.Prelude.{of-opd, assigns, returns, i32, u8, u32, u64, Me
 use Rattle.walks.specs.Prelude.{lent, borrowed, Lfs, Shs, Dens, Vss, Ends, Plain, Known, spelled, fitted, met, ends-with, Walked, starts}
 use Rattle.walks.specs.Prelude.{reborrow, respell, opens-at, closes-at, Bind, at, calls-of, copies, leaves, told0, said1, uint-plain}
 use Rattle.walks.specs.Prelude.{struct-plain, part, sets, takes}
-use Rattle.stream.proofs.Stream as StreamT
-use Rattle.rwkv_tokenizer.proofs.lent.Left as LeftT
+use Rattle.stream_record.proofs.Stream as StreamT
+use Rattle.reports.proofs.lent.Left as LeftT
 use Rattle.rwkv_tokenizer.proofs.lent.Rows.{Rep, within}
-use Rattle.rwkv_tokenizer.proofs.lent.end as callee
+use Rattle.reports.proofs.lent.end as callee
 use Rattle.rwkv_tokenizer.proofs.lent.rwkv_end as f
 use Rattle.rwkv_tokenizer.proofs.lent.rwkv_end.Code as code
 
@@ -73,4 +73,4 @@ rwkv-end-spec 𝓤 H 𝓜 𝓖 𝓡 =
     (λ y. met 𝓤 H A W ps tt (y .0 .0) (y .0 .1) (y .0 .3) (y .0 .4) (Unit {0})
     (told0 𝓤 H A (f.clauses 𝓤 H A (𝓜 .mem) (𝓡 .run) (y .0 .0) (y .0 .3) .requires tt))
     (WpFn 𝓤 H (𝓣 .C) (𝓣 .Λ) code.function) (λ kn _. walk 𝓤 H A W (𝓜 .mem) (𝓡 .run) (y .0 .0) (y .0 .1) (y .0 .3) kn 𝓣
-    (cited 𝓤 H _ 𝓜 𝓡 code.env callee.Symbol.name callee.Symbol.routine code.calls-rwkv-tokenizer·lent·end (callee.Met.met 𝓤 H 𝓜 𝓖 𝓡))))
+    (cited 𝓤 H _ 𝓜 𝓡 code.env callee.Symbol.name callee.Symbol.routine code.calls-reports·lent·end (callee.Met.met 𝓤 H 𝓜 𝓖 𝓡))))

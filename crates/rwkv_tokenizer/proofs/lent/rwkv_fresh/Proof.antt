@@ -4,8 +4,8 @@ use Rattle.walks.specs.Prelude.{tables, tablesOf, Given, _$_, !, by, look, stor
 use Rattle.walks.specs.Prelude.{returns, unit, Meets, tripleOf, atExit, entered, cited, Par, borrowed, Lfs, Shs, Dens, Ends, Plain, Known}
 use Rattle.walks.specs.Prelude.{spelled, fitted, met, ends-with, Walked, starts, opens-at, closes-at, Bind, at, calls-of, leaves, told0}
 use Rattle.walks.specs.Prelude.{said1, unit-plain, struct-plain, var, sets, takes}
-use Rattle.stream.proofs.Stream as StreamT
-use Rattle.stream.proofs.fresh as fresh
+use Rattle.stream_record.proofs.Stream as StreamT
+use Rattle.stream_record.proofs.fresh as fresh
 use Rattle.rwkv_tokenizer.proofs.lent.rwkv_fresh as f
 use Rattle.rwkv_tokenizer.proofs.lent.rwkv_fresh.Code as code
 
@@ -25,7 +25,7 @@ module _ {M : Type 1} (𝓤 : URA M) (H : Heap 𝓤) (A : Atoms 𝓤) (W : Given
     walk =
         let t : Bind [] = (tt, tt, tt, tt, tt) in
         starts 𝓤 H A W ps tt κs qs a (𝓣 .C) (𝓣 .Λ) code.function unit Ens (fitted 𝓤 H A ps tt a kn) (λ bs.
-        -- stream::fresh()
+        -- stream_record::fresh()
         calls-of ! 𝓣 [] [] t tt StreamT.the-row (λ z. k (at [] t z, tt)) (λ z. id⊢ 𝓤 _) (λ z r ws. id⊢ 𝓤 _) refl (no-more !)
         (λ w r _ _ is e.
         takes ! 2 refl (stream .lawful .typed r _ is .0) $
@@ -50,4 +50,4 @@ rwkv-fresh-spec 𝓤 H 𝓜 𝓖 𝓡 =
     (λ y. met 𝓤 H A W ps tt (y .0 .0) (y .0 .1) (y .0 .3) (y .0 .4) (Unit {0})
     (told0 𝓤 H A (f.clauses 𝓤 H A (𝓜 .mem) (𝓡 .run) (y .0 .0) (y .0 .3) .requires tt))
     (WpFn 𝓤 H (𝓣 .C) (𝓣 .Λ) code.function) (λ kn _. walk 𝓤 H A W (𝓜 .mem) (𝓡 .run) (y .0 .0) (y .0 .1) (y .0 .3) kn 𝓣
-    (cited 𝓤 H _ 𝓜 𝓡 code.env fresh.Symbol.name fresh.Symbol.routine code.calls-stream·fresh (fresh.Met.met 𝓤 H 𝓜 𝓖 𝓡))))
+    (cited 𝓤 H _ 𝓜 𝓡 code.env fresh.Symbol.name fresh.Symbol.routine code.calls-stream-record·fresh (fresh.Met.met 𝓤 H 𝓜 𝓖 𝓡))))

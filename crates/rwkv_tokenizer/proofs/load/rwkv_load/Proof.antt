@@ -8,15 +8,15 @@ use denote.RattleType.{RattleType}
 use denote.Builtin.{Array}
 use Rattle.spec.specs.Memory.{Memory as Lent-memory}
 use Rattle.spec.specs.Load.{LoadsTo}
-use Rattle.trie.specs.Run.{Nodes}
-use Rattle.trie.proofs.Node as NodeT
-use Rattle.vocabulary.specs.declared.Load.{Load}
-use Rattle.vocabulary.specs.Answers.{answerOf, WorkKept}
-use Rattle.vocabulary.specs.Settling.{loaded}
-use Rattle.vocabulary.proofs.Load as LoadT
+use Rattle.nodes.specs.Run.{Nodes}
+use Rattle.nodes.proofs.Node as NodeT
+use Rattle.answers.specs.declared.Load.{Load}
+use Rattle.answers.specs.Answers.{answerOf, WorkKept}
+use Rattle.answers.specs.Answers.{loaded}
+use Rattle.answers.proofs.Load as LoadT
 use Rattle.vocabulary.proofs.from_vocab_str_mode as mode
-use Rattle.rwkv_tokenizer.specs.Report.{loadReport, LoadReported}
-use Rattle.rwkv_tokenizer.proofs.load.report_to as report-to
+use Rattle.reports.specs.Report.{loadReport, LoadReported}
+use Rattle.reports.proofs.load.report_to as report-to
 use Rattle.rwkv_tokenizer.proofs.load.rwkv_load as f
 use Rattle.rwkv_tokenizer.proofs.load.rwkv_load.Code as code
 
@@ -108,5 +108,5 @@ rwkv-load-spec 𝓤 H 𝓜 𝓖 𝓡 =
     (told0 𝓤 H A (f.clauses 𝓤 H A (𝓜 .mem) (𝓡 .run) (y .0 .0) (y .0 .3) .requires tt))
     (WpFn 𝓤 H (𝓣 .C) (𝓣 .Λ) code.function) (λ kn _. walk 𝓤 H A W (𝓜 .mem) (𝓡 .run) (y .0 .0) (y .0 .1) (y .0 .3) kn 𝓣
     (cited 𝓤 H _ 𝓜 𝓡 code.env mode.Symbol.name mode.Symbol.routine code.calls-vocabulary·from-vocab-str-mode (mode.Met.met 𝓤 H 𝓜 𝓖 𝓡))
-    (cited 𝓤 H _ 𝓜 𝓡 code.env report-to.Symbol.name report-to.Symbol.routine code.calls-rwkv-tokenizer·load·report-to
+    (cited 𝓤 H _ 𝓜 𝓡 code.env report-to.Symbol.name report-to.Symbol.routine code.calls-reports·load·report-to
     (report-to.Met.met 𝓤 H 𝓜 𝓖 𝓡))))

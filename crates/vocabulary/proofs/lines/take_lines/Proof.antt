@@ -9,19 +9,18 @@ use Rattle.walks.specs.Prelude.{whiles, next-turn, forgets, Blocks, envAt, leav
 use denote.Struct.Laws as LL
 use Rattle.spec.specs.Memory.{memory}
 use Rattle.laws.specs.Reads.{LongEnough}
-use Rattle.trie.proofs.Node as NodeT
-use Rattle.builder.specs.Built.{Built}
-use Rattle.builder.proofs.Build as BuildT
-use Rattle.builder.proofs.Pushed as PushedT
+use Rattle.nodes.proofs.Node as NodeT
+use Rattle.tokens.specs.Built.{Built}
+use Rattle.tokens.proofs.Build as BuildT
+use Rattle.tokens.proofs.Pushed as PushedT
 use Rattle.builder.proofs.push as push
-use Rattle.vocabulary.specs.Taking.{Going, begun-asks, going-starts, bytesLeft, going-done, going-asks, going-reads, going-on}
-use Rattle.vocabulary.specs.Taking.{nearer}
-use Rattle.vocabulary.specs.declared.lines.Taking.{Taking}
+use Rattle.answers.proofs.TakingLines.{Going, begun-asks, going-starts, bytesLeft, going-done, going-asks, going-reads, going-on, nearer}
+use Rattle.answers.specs.declared.taking.Taking.{Taking}
 use Rattle.vocabulary.proofs.Types.{number, size, build, pushed, taking}
-use Rattle.vocabulary.proofs.lines.Taking as TakingT
-use Rattle.vocabulary.proofs.lines.begun as begun
-use Rattle.vocabulary.proofs.lines.read_next as read-next
-use Rattle.vocabulary.proofs.lines.after_push as after-push
+use Rattle.answers.proofs.taking.Taking as TakingT
+use Rattle.answers.proofs.taking.begun as begun
+use Rattle.answers.proofs.taking.read_next as read-next
+use Rattle.answers.proofs.taking.after_push as after-push
 use Rattle.vocabulary.proofs.lines.take_lines as f
 use Rattle.vocabulary.proofs.lines.take_lines.Code as code
 use Rattle.vocabulary.proofs.lines.take_lines.Code.Mir as parts
@@ -192,9 +191,9 @@ take-lines-spec 𝓤 H 𝓜 𝓖 𝓡 =
     entered 𝓤 H (tripleOf 𝓤 H A f.signature (f.spec 𝓤 H A (𝓜 .mem) (𝓡 .run))) (𝓣 .C) (𝓣 .Λ) f.Key.name code.function
     (code.unfolded 𝓤 H 𝓜 𝓡) (λ y. met 𝓤 H A W ps (pl 𝓤 H A W (𝓜 .mem) (𝓡 .run)) (y .0 .0) (y .0 .1) (y .0 .3) (y .0 .4) _ (id⊢ 𝓤 _)
     (WpFn 𝓤 H (𝓣 .C) (𝓣 .Λ) code.function) (λ kn. walk 𝓤 H A W (𝓜 .mem) (𝓡 .run) (y .0 .0) (y .0 .1) (y .0 .3) kn 𝓣
-    (cited 𝓤 H _ 𝓜 𝓡 code.env begun.Symbol.name begun.Symbol.routine code.calls-vocabulary·lines·begun (begun.Met.met 𝓤 H 𝓜 𝓖 𝓡))
-    (cited 𝓤 H _ 𝓜 𝓡 code.env read-next.Symbol.name read-next.Symbol.routine code.calls-vocabulary·lines·read-next
+    (cited 𝓤 H _ 𝓜 𝓡 code.env begun.Symbol.name begun.Symbol.routine code.calls-answers·taking·begun (begun.Met.met 𝓤 H 𝓜 𝓖 𝓡))
+    (cited 𝓤 H _ 𝓜 𝓡 code.env read-next.Symbol.name read-next.Symbol.routine code.calls-answers·taking·read-next
     (read-next.Met.met 𝓤 H 𝓜 𝓖 𝓡))
     (cited 𝓤 H _ 𝓜 𝓡 code.env push.Symbol.name push.Symbol.routine code.calls-builder·push (push.Met.met 𝓤 H 𝓜 𝓖 𝓡))
-    (cited 𝓤 H _ 𝓜 𝓡 code.env after-push.Symbol.name after-push.Symbol.routine code.calls-vocabulary·lines·after-push
+    (cited 𝓤 H _ 𝓜 𝓡 code.env after-push.Symbol.name after-push.Symbol.routine code.calls-answers·taking·after-push
     (after-push.Met.met 𝓤 H 𝓜 𝓖 𝓡))))

@@ -1,0 +1,4 @@
+-- What the contracts of this crate and of `vocabulary` cite.
+pub mod Answers
+pub mod LoadParts
+pub mod Taking

@@ -1,0 +1,2 @@
+-- The end of a build.
+pub mod EndOfBuild

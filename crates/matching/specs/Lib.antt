@@ -1,0 +1,2 @@
+-- What the contracts of matching cite beside the definitions of `spec`.
+pub mod Answers

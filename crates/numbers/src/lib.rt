@@ -1,0 +1,74 @@
+// Numbers in decimal and hexadecimal digits. An answer is an enum, and a contract says by a definition of `spec` that it is the number
+// that document 01 says. Any bytes may be given.
+ghost use mathlib.Core.Path.{_≡_};
+ghost use Prim.Native.Nat.{_≤_};
+ghost use Rattle.spec.specs.Digits.{digits, hexDigit, hexRun};
+ghost use Rattle.numbers.specs.Answers.{numberOf};
+
+// A number, or that the bytes are none.
+pub enum Number {
+    Value(u64),
+    Bad,
+}
+
+// The value of `text` in decimal digits, at most `limit`. Leading zeros are allowed, in any number.
+pub fn digits(text: &[u8], limit: u64) -> Number
+    ensures { λ r. ⌜ numberOf r ≡ digits limit (now (text .entry)) ⌝ }
+{
+    if text.len() == 0 {
+        return Number::Bad;
+    }
+    let mut value: u64 = 0;
+    let mut i = 0;
+    while i < text.len() {
+        let b = text[i];
+        if b < b'0' {
+            return Number::Bad;
+        }
+        if b > b'9' {
+            return Number::Bad;
+        }
+        let d = cells::u8_to_u64(b - b'0');
+        if d > limit {
+            return Number::Bad;
+        }
+        if value > (limit - d) / 10 {
+            return Number::Bad;
+        }
+        value = value * 10 + d;
+        i += 1;
+    }
+    Number::Value(value)
+}
+
+// The value of one hexadecimal digit.
+pub fn hex_digit(b: u8) -> Number
+    ensures { λ r. ⌜ numberOf r ≡ hexDigit b ⌝ }
+{
+    match b {
+        b'0'..=b'9' => Number::Value(cells::u8_to_u64(b - b'0')),
+        b'a'..=b'f' => Number::Value(cells::u8_to_u64(b - b'a') + 10),
+        b'A'..=b'F' => Number::Value(cells::u8_to_u64(b - b'A') + 10),
+        _ => Number::Bad,
+    }
+}
+
+// The value of `count` hexadecimal digits, at most eight, at the start of `text`.
+pub fn hex_run(text: &[u8], count: usize) -> Number
+    requires { ⌜ count ≤ 8 ⌝ }
+    ensures { λ r. ⌜ numberOf r ≡ hexRun count (now (text .entry)) ⌝ }
+{
+    let mut value: u64 = 0;
+    let mut i = 0;
+    while i < count {
+        if text.len() <= i {
+            return Number::Bad;
+        }
+        let Number::Value(d) = hex_digit(text[i]) else {
+            return Number::Bad;
+        };
+        value = value * 16 + d;
+        i += 1;
+    }
+    Number::Value(value)
+}

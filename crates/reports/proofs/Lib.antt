@@ -1,0 +1,2 @@
+-- What the proofs of the calls by value share.
+pub mod Leaving

@@ -1,3 +1,0 @@
--- What the contracts of the exported calls cite beside the definitions of `spec`.
-pub mod Report
-pub mod Lent

@@ -1,0 +1,4 @@
+-- What the proofs of this crate share.
+pub mod RuleCases
+pub mod LineReading
+pub mod Early

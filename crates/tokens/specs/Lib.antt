@@ -1,0 +1,2 @@
+-- The memory under construction.
+pub mod Built
