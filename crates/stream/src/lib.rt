@@ -7,6 +7,8 @@ use stream_record::Answer;
 use stream_record::Called;
 use stream_record::Refusal;
 use stream_record::Stream;
+use stream_record::opened;
+use stream_record::stopped;
 ghost use mathlib.Core.Path.{_≡_};
 ghost use mathlib.Core.List.{List, [], _++_};
 ghost use Prim.Native.Nat.{ℕ, _+_, _-_, _≤_, min};
@@ -74,14 +76,9 @@ fn take_rest(
     let all = total + piece.len() as u32;
     let ran = runs::run(single, roots, table, piece, from, piece.len(), out, count);
     match ran {
-        Ran::Through { at, count } => stream_record::opened(all, &piece[at..], count),
-        Ran::Waiting { at, count } => stream_record::opened(all, &piece[at..], count),
-        Ran::Stuck { at, count } => stream_record::stopped(
-            all,
-            total + at as u32,
-            piece[at],
-            count,
-        ),
+        Ran::Through { at, count } => opened(all, &piece[at..], count),
+        Ran::Waiting { at, count } => opened(all, &piece[at..], count),
+        Ran::Stuck { at, count } => stopped(all, total + at as u32, piece[at], count),
     }
 }
 
@@ -118,13 +115,8 @@ fn take_piece(
             out,
             count,
         ),
-        Ran::Waiting { at, count } => stream_record::opened(all, &window[at..k], count),
-        Ran::Stuck { at, count } => stream_record::stopped(
-            all,
-            start + at as u32,
-            window[at],
-            count,
-        ),
+        Ran::Waiting { at, count } => opened(all, &window[at..k], count),
+        Ran::Stuck { at, count } => stopped(all, start + at as u32, window[at], count),
     }
 }
 
@@ -201,7 +193,7 @@ pub fn end(
             count,
             offset,
             byte,
-        } => stream_record::stopped(total, start + offset as u32, byte, count),
+        } => stopped(total, start + offset as u32, byte, count),
         // Neither of these comes: the memory is long enough, and the output has a cell for every byte.
         Encoded::ShortMemory => Called {
             stream,
