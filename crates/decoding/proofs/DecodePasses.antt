@@ -20,7 +20,7 @@ use Rattle.spec.specs.Decode.{decodeOutput, decodeOn}
 use Rattle.decoding.specs.declared.Decoded.{Decoded}
 use Rattle.decoding.specs.declared.Decoded.the-variants.{Whole, ShortMemory, Absent, Full}
 use Rattle.decoding.specs.Answers.{answerOf, takenOf, Answered}
-use Rattle.decoding.specs.Copy.{Placed}
+use Rattle.copies.specs.Copy.{Placed}
 use Rattle.laws.specs.OneMore.{each-append}
 use Rattle.laws.specs.Decoding.{decode-absent, decode-full, decode-more}
 use Rattle.decoding.proofs.SpanLaws.{Present, present}

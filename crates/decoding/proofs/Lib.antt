@@ -1,5 +1,4 @@
 -- Laws that the proofs share.
 pub mod SpanLaws
-pub mod TokenCopies
 pub mod DecodePasses
 pub mod DecodeText

@@ -1,5 +1,4 @@
 -- What the contracts of this crate cite, in the order in which to read it.
 pub mod Answers
 pub mod Span
-pub mod Copy
 pub mod Measured

@@ -9,8 +9,6 @@ ghost use Rattle.decoding.specs.Answers.{answerOf, takenOf, Answered};
 ghost use Rattle.decoding.specs.Span.{spanOf, spanBytes};
 ghost use Rattle.decoding.specs.Measured.{tokens, Joined, Measured};
 
-mod copy;
-
 // Where the bytes of an id's token stand in the blob, or that the id has none.
 pub enum Span {
     Token { start: usize, len: usize },
@@ -122,7 +120,7 @@ fn write_tokens(
     let mut at: usize = 0;
     while index < count {
         let part = part_of(offsets, ids[index]);
-        copy::copy_token(blob, part.start, part.len, out, at, total);
+        copies::copy_token(blob, part.start, part.len, out, at, total);
         at += part.len;
         index += 1;
     }

@@ -3,7 +3,7 @@ use mathlib.Core.Path.{_≡_, refl, ap, sym, _∙_}
 use mathlib.Core.List.{List, [], _∷_, _++_}
 use Prim.Native.Nat.{ℕ, zero, suc, _+_, _-_, _≤_}
 use native.Mathlib.Omega.{arith}
-use Rattle.decoding.specs.Copy.{Placed}
+use Rattle.copies.specs.Copy.{Placed}
 use lib.ListN.{length, take, drop, getD, set, length-drop}
 use lib.Seq.{paste, drop-drop, length-take-le, sets-eq, drop-cons}
 use Rattle.cells.proofs.Pasted.{take-inside, drop-behind}

@@ -1,11 +1,11 @@
--- `decoding::copy::copy_token` meets its contract, whichever copy is taken. Assumes nothing.
+-- `copies::copy_token` meets its contract, whichever copy is taken. Assumes nothing.
 use Prim.Native.Nat.{_+_}
 use native.Mathlib.Omega.{arith}
 use lib.ListN.{take, drop}
-use Rattle.decoding.proofs.TokenCopies.{placed, placed-later}
+use Rattle.copies.proofs.TokenCopies.{placed, placed-later}
 use borrow.Author.Needs.{needs}
-use Rattle.decoding.proofs.copy.copy_token.Statement.{statement}
-use Rattle.decoding.proofs.copy.copy_token.Tie as tie
+use Rattle.copies.proofs.copy_token.Statement.{statement}
+use Rattle.copies.proofs.copy_token.Tie as tie
 
 sub-if1 : tie.Need-sub-if1
 sub-if1 c = search needs

@@ -1,9 +1,9 @@
 // Copies from one slice to another: eight bytes at a time, and a token, which may go past its own end where later tokens will stand.
 ghost use mathlib.Core.Path.{_≡_};
-ghost use Prim.Native.Nat.{_+_, _-_, _<_, _≤_};
+ghost use Prim.Native.Nat.{_+_, _≤_};
 ghost use lib.ListN.{length, take, drop};
 ghost use lib.Seq.{paste};
-ghost use Rattle.decoding.specs.Copy.{Placed};
+ghost use Rattle.copies.specs.Copy.{Placed};
 
 // Eight bytes. The loads come before the stores, so that the compiler makes one of each.
 fn copy8(src: &[u8], start: usize, dst: &mut [u8], at: usize)

@@ -1,4 +1,4 @@
--- `decoding::copy::copy_eights` meets its contract. The loop's invariant: k bytes are pasted, at most seven too many. Assumes nothing.
+-- `copies::copy_eights` meets its contract. The loop's invariant: k bytes are pasted, at most seven too many. Assumes nothing.
 use mathlib.Core.Path.{_≡_, refl, ap, _∙_}
 use mathlib.Core.List.{List}
 use Prim.Native.Nat.{ℕ, _+_, _-_, _<_}
@@ -6,9 +6,9 @@ use native.Mathlib.Omega.{arith}
 use lib.ListN.{length, drop}
 use lib.Seq.{paste, paste-zero}
 use Rattle.cells.proofs.Pasted.{paste-next}
-use Rattle.decoding.proofs.TokenCopies.{placed}
-use Rattle.decoding.proofs.copy.copy_eights.Statement.{statement}
-use Rattle.decoding.proofs.copy.copy_eights.Tie as tie
+use Rattle.copies.proofs.TokenCopies.{placed}
+use Rattle.copies.proofs.copy_eights.Statement.{statement}
+use Rattle.copies.proofs.copy_eights.Tie as tie
 
 abbrev Inv-loop : tie.InvT-loop
 Inv-loop src start len dst₀ at k₀ dst k = (k < len + 8) × (length dst ≡ length dst₀) × (dst ≡ paste dst₀ at (drop start src) k)

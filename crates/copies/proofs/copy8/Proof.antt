@@ -1,10 +1,10 @@
--- `decoding::copy::copy8` meets its contract: eight stores are a paste. Assumes nothing.
+-- `copies::copy8` meets its contract: eight stores are a paste. Assumes nothing.
 use borrow.Author.Needs.{needs}
 use native.Mathlib.Omega.{arith}
 use lib.ListN.{length-set}
-use Rattle.decoding.proofs.TokenCopies.{eight-stores}
-use Rattle.decoding.proofs.copy.copy8.Statement.{statement}
-use Rattle.decoding.proofs.copy.copy8.Tie as tie
+use Rattle.copies.proofs.TokenCopies.{eight-stores}
+use Rattle.copies.proofs.copy8.Statement.{statement}
+use Rattle.copies.proofs.copy8.Tie as tie
 
 shared-slice-read-a : tie.Need-shared-slice-read-a
 shared-slice-read-a c = search needs
