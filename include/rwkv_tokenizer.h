@@ -6,8 +6,8 @@
  *
  * Every call that is given vocabulary memory:
  *    1  a part of the vocabulary memory is too short
- * Loading a text; 2 carries an offset, 3 to 18 a line counted from 1, 20 a byte:
- *    2  the text is not UTF-8
+ * Loading a text; 2 carries the offset of the first bad byte, 3 to 18 a line counted from 1, 20 a byte:
+ *    2  the text is not UTF-8; its first ill-formed sequence starts at the offset, and all before it is UTF-8
  *    3  the line is blank
  *    4  no space
  *    5  the spaces do not part id, literal and length
@@ -33,7 +33,7 @@
  *   24  fewer cells than bytes held and given
  *   25  more than 4294967295 bytes in one stream
  *   26  the stream has ended, or the record is none of a stream
- * Decoding; 27 carries an index and an id, 28 an index, 29 an offset:
+ * Decoding; 27 carries an index and an id, 28 an index, 29 the offset of the first bad byte:
  *   27  no token has this id
  *   28  too few cells for the bytes
  *   29  the bytes are not UTF-8

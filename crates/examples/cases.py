@@ -3,8 +3,8 @@
 
 Nothing here is taken from the code. What a literal stands for is what Python's own reader makes of it, where document 01 takes
 the literal at all; which ones it takes is one pattern. `\\0` is the one place where both take a literal and differ: it is given to
-Python as `\\x00`. Lines, fields and numbers are split and read by Python's means. What is UTF-8, and lossy text, is what Python's own
-decoder says.
+Python as `\\x00`. Lines, fields and numbers are split and read by Python's means. What is UTF-8, where a text is bad, and lossy text,
+is what Python's own decoder says.
 """
 import ast
 import os
@@ -84,6 +84,13 @@ def runs(start):
     return "".join("%s%d" % (shown([bytes(ends)]), n) for ends, n in found)
 
 
+def before_lines(short, text):
+    """What a load refuses before any line: 1, or 2 at the first bad byte (document 02, W-206)."""
+    if short:
+        return "refused 1"
+    return "refused 2 at %d" % good(text) if good(text) < len(text) else "read on"
+
+
 V = {1: b"a", 2: b"b", 3: b"ab", 4: b"abcd", 5: b"bc"}
 EACH = {byte: bytes([byte]) for byte in range(256)}
 
@@ -119,6 +126,8 @@ def answer(kind, case):
         return str(good(case))
     if kind == "S":
         return runs(case)
+    if kind == "B":
+        return before_lines(case[0], case[1:])
     if kind in "DXY":
         return decoding(kind, case)
     if kind == "L":
@@ -202,6 +211,17 @@ def cases():
         yield "U", text
     for end in range(1, 11):
         yield "U", "é€𝄞a".encode()[:end]
+    # texts with one bad place, two, or none: at the start, within lines, at the end, and with memory too short for any of them
+    bad = (b"\x80", b"\xbf", b"\xc0\xaf", b"\xc1", b"\xc3", b"\xe0\x9f\xbf", b"\xe2", b"\xe2\x82", b"\xed\xa0\x80", b"\xef\xbf",
+           b"\xf0\x8f\xbf\xbf", b"\xf0\x9f", b"\xf0\x9f\x98", b"\xf4\x90\x80\x80", b"\xf5\x80", b"\xfe", b"\xff")
+    texts = [b"", b"A\xc3\xa9\xffA\x80", b"A\xe2\x82", b"\xe2\x82A", b"1 'a' 1\n", "1 'é€𝄞' 9\n".encode(), b"1 '\xe2\n\x82\xac' 3", b"\r\xff\n"]
+    for part in bad:
+        texts += [part, b"1 'a' 1\n2 '" + part, b"1 '" + part + b"' 1\n2 '" + part + b"' 1\n", "1 'é€𝄞".encode() + part + b"\xff' 1\n"]
+    texts += ["é".encode() + first + second + b"a\xff" for first in bad for second in bad]
+    for text in texts:
+        yield "B", b"\0" + text
+    for text in (b"1 'a' 1\n", b"\xff", b"A\xe2\x82"):
+        yield "B", b"\1" + text
     # document 01's decodings, and number 1
     def ids(memory, cells, *numbers):
         return bytes([memory, cells]) + b"".join(i.to_bytes(3, "big") for i in numbers)

@@ -46,7 +46,7 @@ pub enum Place {
     None,
     /// A line, counted from 1.
     Line(u64),
-    /// An offset in the text.
+    /// An offset in the text: that of the first bad byte, where the first ill-formed sequence starts. All before it is UTF-8.
     Offset(u64),
     /// A byte value.
     Byte(u8),

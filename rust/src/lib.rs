@@ -75,7 +75,7 @@ impl RwkvTokenizer {
         Self::from_vocab_bytes(text.as_bytes(), true)
     }
 
-    /// Loads a text that need not be UTF-8 and is refused with number 2 if it isn't.
+    /// Loads a text that need not be UTF-8; if it isn't, it is refused with number 2 at its first bad byte.
     pub fn from_vocab_bytes(text: &[u8], partial: bool) -> Result<Self, VocabError> {
         let tables = Arc::new(load::load(text, partial).map_err(VocabError::Invalid)?);
         Ok(Self { tables, partial })

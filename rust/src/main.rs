@@ -120,28 +120,49 @@ impl Options {
     }
 }
 
-/// Loads a file; a refusal shows the line.
+/// Loads a file; a refusal shows the line, and that of a bad byte its line and column.
 fn load(path: &str, partial: bool) -> Result<(RwkvTokenizer, usize), Failure> {
     let text = std::fs::read(path).map_err(|error| refused(format!("{path}: {error}")))?;
     match RwkvTokenizer::from_vocab_bytes(&text, partial) {
         Ok(tokenizer) => Ok((tokenizer, text.len())),
-        Err(VocabError::Invalid(refusal)) => Err(refused(format!("{path}: {refusal}{}", line_shown(&text, refusal)))),
+        Err(VocabError::Invalid(refusal)) => Err(refused(format!("{path}: {}", told(&text, refusal)))),
         Err(error) => Err(refused(error)),
     }
 }
 
-/// The line that a refusal speaks of, with its number.
-fn line_shown(text: &[u8], refusal: Refusal) -> String {
-    let index = match refusal.place {
-        Place::Line(line) => line as usize - 1,
-        Place::Offset(offset) => text[..offset as usize].iter().filter(|&&byte| byte == b'\n').count(),
-        Place::None | Place::Byte(_) => return String::new(),
-    };
-    let line = text.split(|&byte| byte == b'\n').nth(index).unwrap_or_default();
-    let shown = shown(line);
-    let end = shown.char_indices().nth(200).map_or(shown.len(), |(at, _)| at);
-    let more = if end < shown.len() { ".." } else { "" };
-    format!("\n{:>6} | {}{more}", index + 1, &shown[..end])
+/// A refusal in words, and the line that it speaks of.
+fn told(text: &[u8], refusal: Refusal) -> String {
+    match refusal.place {
+        Place::Line(line) => {
+            let line = line as usize;
+            format!("{refusal}{}", line_shown(line, b"", text.split(|&byte| byte == b'\n').nth(line - 1).unwrap_or_default()))
+        }
+        Place::Offset(offset) => {
+            let (line, before, rest) = line_at(text, offset as usize);
+            // All before the first bad byte is UTF-8, so its characters can be counted.
+            let column = 1 + lossy(before).chars().count();
+            format!("line {line}, column {column}, {refusal}{}", line_shown(line, before, rest))
+        }
+        Place::None | Place::Byte(_) => refusal.to_string(),
+    }
+}
+
+/// The line of an offset, counted from 1, and its bytes before the offset and from there on.
+fn line_at(text: &[u8], offset: usize) -> (usize, &[u8], &[u8]) {
+    let (before, rest) = text.split_at(offset);
+    let start = before.iter().rposition(|&byte| byte == b'\n').map_or(0, |at| at + 1);
+    let end = rest.iter().position(|&byte| byte == b'\n').unwrap_or(rest.len());
+    (1 + before.iter().filter(|&&byte| byte == b'\n').count(), &before[start..], &rest[..end])
+}
+
+/// A line with its number, for a terminal: the end of what stands before a place, and the beginning of the rest.
+fn line_shown(line: usize, before: &[u8], rest: &[u8]) -> String {
+    let (before, rest) = (shown(before), shown(rest));
+    let from = before.char_indices().rev().nth(99).map_or(0, |(at, _)| at);
+    let to = rest.char_indices().nth(200).map_or(rest.len(), |(at, _)| at);
+    let less = if from > 0 { ".." } else { "" };
+    let more = if to < rest.len() { ".." } else { "" };
+    format!("\n{line:>6} | {less}{}{}{more}", &before[from..], &rest[..to])
 }
 
 /// Bytes for a terminal: characters as they are, what is not printable or not UTF-8 as escapes.

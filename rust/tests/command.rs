@@ -73,8 +73,24 @@ fn checks() {
     assert!(status == 1 && error.contains("byte 0x00: a byte has no token of its own (number 20)"), "{error}");
     let (status, _, error) = run(&["check", &file("bad.txt", b"1 'a' 1\n2 'b\\q' 1\n")], b"");
     assert!(status == 1 && error.contains("line 2: the literal") && error.contains("2 | 2 'b\\q' 1"), "{error}");
-    let (status, _, error) = run(&["check", &file("bytes.txt", b"1 'a' 1\n2 '\xff' 1\n")], b"");
-    assert!(status == 1 && error.contains("byte offset 11") && error.contains("2 | 2 '\\xff' 1"), "{error}");
+}
+
+/// The first bad byte of a text is told by line, column and offset. A column is a character, and the byte's line is shown around it.
+#[test]
+fn shows_where_the_first_bad_byte_is() {
+    let long = [&b"1 '"[..], "é".repeat(300).as_bytes(), b"\xff", "a".repeat(300).as_bytes(), b"' 1\n"].concat();
+    let shown = format!("     1 | ..{}\\xff{}..\n", "é".repeat(100), "a".repeat(196));
+    for (name, text, place, line) in [
+        ("two_places", &b"1 'a' 1\n2 '\xff' 1\n3 '\x80' 1\n"[..], "line 2, column 4, byte offset 11", "     2 | 2 '\\xff' 1\n"),
+        ("after_characters", b"1 'a' 1\n2 '\xc3\xa9\xe2\x82\xac\xe2\x82' 9", "line 2, column 6, byte offset 16", "     2 | 2 'é€\\xe2\\x82' 9\n"),
+        ("cut", b"1 'a' 1\n\xf0\x9f", "line 2, column 1, byte offset 8", "     2 | \\xf0\\x9f\n"),
+        ("broken_off", b"\xe2\x82A", "line 1, column 1, byte offset 0", "     1 | \\xe2\\x82A\n"),
+        ("long_line", &long, "line 1, column 304, byte offset 603", &shown),
+    ] {
+        let path = file(&format!("bad_{name}.txt"), text);
+        let error = format!("bombrezen: {path}: {place}: the text is not UTF-8 (number 2)\n{line}");
+        assert_eq!(run(&["check", "--partial", &path], b""), (1, "".into(), error));
+    }
 }
 
 #[test]

@@ -61,6 +61,7 @@ static void stream(const char *const *pieces, size_t count) {
 int main(void) {
     const char *const pieces[] = {"ab", "b", "c"}, *const stopped[] = {"abc"};
     load("0 'a' 1\n");
+    load("1 '\xff' 1\n2 '\x80' 1\n");
     load("1 'a' 1\n2 'b' 1\n3 'ab' 2\n4 'abcd' 4\n5 'bc' 2\n");
     encode("abcd");
     encode("aab");

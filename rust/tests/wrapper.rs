@@ -67,6 +67,10 @@ fn a_stream_that_stops_says_so_again() {
 fn refusals_have_number_place_and_words() {
     assert_eq!(refusal(b"1 'a' 1\n2 'b 1", true), (12, Place::Line(2)));
     assert_eq!(refusal(b"1 'a' 1\n2 '\xff' 1", true), (2, Place::Offset(11)));
+    // Two ill-formed places, a last character that is cut, one that is broken off: the start of the first.
+    assert_eq!(refusal(b"A\xc3\xa9\xffA\x80", true), (2, Place::Offset(3)));
+    assert_eq!(refusal(b"A\xe2\x82", false), (2, Place::Offset(1)));
+    assert_eq!(refusal(b"\xe2\x82A", true), (2, Place::Offset(0)));
     assert_eq!(refusal(b"1 'a' 1", false), (20, Place::Byte(0)));
     assert_eq!(refusal(b"", true), (19, Place::None));
     let error = RwkvTokenizer::from_vocab_str_partial("0 'a' 1").unwrap_err();

@@ -12,12 +12,11 @@ use lib.ListN.{length, drop, replicate, length-replicate}
 use lib.Seq.{drop-at}
 use Rattle.spec.specs.Lists.{over}
 use Rattle.spec.specs.Utf8.{firstBad}
-use Rattle.laws.specs.Utf8Laws.{isNone, well-formed-first}
 use Rattle.spec.specs.Token.{Token}
 use Rattle.spec.specs.Trie.{nodeCount}
 use Rattle.spec.specs.Memory.{Memory, memory, tooShort, singleList, offsetList, blobBytes, rootList, tableList, padded, memoryOf, emptied}
 use Rattle.spec.specs.Load.{Room, tableRoom, nowhere, Outcome, accepted, refused, finish, load, countsOf, LoadResult, turnedDown, settled}
-use Rattle.spec.specs.Load.{LoadsTo}
+use Rattle.spec.specs.Load.{loadOn}
 use Rattle.spec.specs.Load as spec
 use Rattle.nodes.specs.Run.{room, Nodes}
 use Rattle.laws.specs.Reads.{LongEnough, single-length, offset-length, root-length}
@@ -218,9 +217,8 @@ long-kept bl tb bl′ tb′ h es eo er =
 module _ (partial : Bool) (nodes table : ℕ) (m : Memory) (text : List ℕ) (early : LoadRefusal)
     (is : early ≡ earlyOf (tooShort m) (firstBad text)) where
   pub loads-early : (early .number ≡ 0 → ⊥) → (a : Load) → a ≡ Load.Refused (record { number = early .number; place = early .place })
-      → LoadsTo partial nodes table m text (loaded a m)
-  loads-early bad a q =
-      subst (λ (x : Load). LoadsTo partial nodes table m text (loaded x m)) (sym q) (early-told partial nodes table m text early is bad)
+      → loaded a m ≡ loadOn partial nodes table m text
+  loads-early bad a q = ap (λ (x : Load). loaded x m) q ∙ early-told partial nodes table m text early is bad
 
 -- what is read is loaded as the table has it, and the work memory is free: a text that is read is never refused with 1 or 2
 module _ (partial : Bool) (nodes table : ℕ) (m : Memory) (text : List ℕ) (long : tooShort m ≡ false) (good : firstBad text ≡ none) where
@@ -228,7 +226,7 @@ module _ (partial : Bool) (nodes table : ℕ) (m : Memory) (text : List ℕ) (lo
   R = record { nodes = nodes; blob = length (m .blob); table = table }
 
   abbrev Loads : Load → Memory → Type 0
-  Loads a m′ = LoadsTo partial nodes table m text (loaded a m′)
+  Loads a m′ = (loaded a m′ ≡ loadOn partial nodes table m text)
       × ((ns : Nodes) (us bs : List ℕ) (ns′ : Nodes) (us′ bs′ : List ℕ) → WorkKept (answerOf a .number) ns us bs ns′ us′ bs′)
 
   late : (o : Outcome) → load partial R text ≡ o → 1 ≤ settled m o .answer .number → settled m o .answer .number ≤ 2 → ⊥
@@ -241,10 +239,6 @@ module _ (partial : Bool) (nodes table : ℕ) (m : Memory) (text : List ℕ) (lo
       let e : answerOf a .number ≡ settled m (load partial R text) .answer .number = ap (λ (x : LoadResult). x .answer .number) q in
       let never : 1 ≤ answerOf a .number → answerOf a .number ≤ 2 → ⊥ =
       λ j k. late (load partial R text) refl (subst (λ (n : ℕ). 1 ≤ n) e j) (subst (λ (n : ℕ). n ≤ 2) e k) in (
-        record {
-          bad = 0;
-          result = q ∙ sym (by-tests 0 partial nodes table m text false true long (well-formed-first text ∙ ap isNone good));
-          starts = λ k. absurd (never (omega arith) (omega arith));
-        },
+        q ∙ sym (by-tests partial nodes table m text false none long good),
         λ ns us bs ns′ us′ bs′ j k. absurd (never j k),
       )

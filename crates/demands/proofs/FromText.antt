@@ -1,6 +1,9 @@
 -- Demand 3 as one theorem, from a text to the calls that are linked. Assumes nothing.
-use mathlib.Core.Path.{sym, _∙_}
-use Rattle.demands.specs.DemandTheorems.{Demand3FromText, Demand3FromTextByValue}
+use mathlib.Core.Path.{refl, sym, _∙_, subst}
+use lib.ListN.{length}
+use Rattle.spec.specs.Memory.{Memory}
+use Rattle.spec.specs.Load.{tableRoom, loadOn}
+use Rattle.demands.specs.DemandTheorems.{Streams, Demand3FromText, Demand3FromTextByValue}
 use Rattle.demands.proofs.TextIn.{text-in-ids-out}
 
 pub demand3-from-text-by-value : Demand3FromTextByValue
@@ -10,5 +13,6 @@ demand3-from-text-by-value partial nodes used bases m text r h L e =
 
 pub demand3-from-text : Demand3FromText
 demand3-from-text partial nodes used bases m text r report after h L e =
-    demand3-from-text-by-value partial nodes used bases m text (record { answer = L .answer; memory = after }) h (L .loads)
-    (sym (L .number) ∙ e)
+    let o = loadOn partial nodes (tableRoom (length (m .table)) used bases) m text in
+    let (ts, S) = demand3-from-text-by-value partial nodes used bases m text o h refl (sym (L .number) ∙ e) in
+    (ts, subst (λ (x : Memory). Streams partial nodes used bases m text x ts) (sym (L .memory)) S)

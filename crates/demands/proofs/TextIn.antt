@@ -18,6 +18,7 @@ use Rattle.spec.specs.Decode.{lookup, Decoding, decoding, decodeOutput, decodeO
 use Rattle.spec.specs.Decode.{decodeLossyOn}
 use Rattle.spec.specs.Load.{tableRoom, load, LoadResult, loadOn}
 use Rattle.running.specs.ScanLaws.{ids-present, round-trip}
+use Rattle.laws.specs.FirstBad.{well-formed-none}
 use Rattle.laws.specs.Tests.{and-l, and-r}
 use Rattle.laws.specs.Spans.{looking, present-bytes}
 use Rattle.laws.specs.Matching.{matching}
@@ -114,17 +115,16 @@ pub text-in-ids-out : (partial : Bool) (nodes used bases : ℕ) (m : Memory) (te
     → TextInIdsOut partial nodes used bases m text r
 text-in-ids-out partial nodes used bases m text r h L e =
     let table = tableRoom (length (m .table)) used bases in
-    let zero : loadOn (L .bad) partial nodes table m text .answer .number ≡ 0 = ap (λ (x : LoadResult). x .answer .number)
-    (sym (L .result)) ∙ e in
-    let P = passed (L .bad) partial nodes table m text zero in
-    let (ts, a, M) = loads-loaded (L .bad) partial nodes table m text h (room-table (length (m .table)) used bases) zero in
-    let q = L .result ∙ loads-accepted (L .bad) partial nodes table m text (P .long) (P .good) ts a in (
+    let zero : loadOn partial nodes table m text .answer .number ≡ 0 = ap (λ (x : LoadResult). x .answer .number) (sym L) ∙ e in
+    let P = passed partial nodes table m text zero in
+    let (ts, a, M) = loads-loaded partial nodes table m text h (room-table (length (m .table)) used bases) zero in
+    let q = L ∙ loads-accepted partial nodes table m text (P .long) (P .good) ts a in (
       ts,
       record {
         tokens = a;
         counts = ap (λ (x : LoadResult). x .answer .counts) q;
         valid = M .valid;
-        gives = loaded-gives (r .memory) ts (subst (λ (x : LoadResult). Loaded (x .memory) ts) (sym (L .result)) M);
+        gives = loaded-gives (r .memory) ts (subst (λ (x : LoadResult). Loaded (x .memory) ts) (sym L) M);
         full = λ f. full-is-full _ text ts (ap (λ (b : Bool). load b (record { nodes = nodes; blob = length (m .blob); table = table })
             text) (sym f) ∙ a);
       },
@@ -133,4 +133,4 @@ text-in-ids-out partial nodes used bases m text r h L e =
 pub text-accepted : (partial : Bool) (nodes used bases : ℕ) (m : Memory) (text : List ℕ) (r : LoadResult)
     → TextAccepted partial nodes used bases m text r
 text-accepted partial nodes used bases m text r L s w ts a =
-    L .result ∙ loads-accepted (L .bad) partial nodes (tableRoom (length (m .table)) used bases) m text s w ts a
+    L ∙ loads-accepted partial nodes (tableRoom (length (m .table)) used bases) m text s (well-formed-none text w) ts a

@@ -22,7 +22,7 @@ use Rattle.spec.specs.Valid.{Valid}
 use Rattle.spec.specs.Match.{matchOn}
 use Rattle.spec.specs.Encode.{encodeAnswer, encodeOn}
 use Rattle.spec.specs.Decode.{decodeOn, textAnswer, decodeTextOn, decodeLossyOn}
-use Rattle.spec.specs.Load.{tableRoom, nowhere, Outcome, accepted, load, countsOf, LoadResult, LoadsTo}
+use Rattle.spec.specs.Load.{tableRoom, nowhere, Outcome, accepted, load, countsOf, LoadResult, loadOn}
 use Rattle.spec.specs.Theorems.{matchOf, encodeEnd}
 use Rattle.reports.specs.Report.{LoadReported}
 
@@ -161,7 +161,7 @@ states partial nodes used bases m text =
 -- Its load, as the contracts of the entries say it.
 module _ (partial : Bool) (nodes used bases : ℕ) (m : Memory) (text : List ℕ) (r : LoadResult) where
   abbrev pub Loads : Type 0
-  Loads = LoadsTo partial nodes (tableRoom (length (m .table)) used bases) m text r
+  Loads = (r ≡ loadOn partial nodes (tableRoom (length (m .table)) used bases) m text)
 
   -- A load that answers 0 stated tokens: the answer has their counts, and the memory left gives what they say. In full mode every byte
   -- is one of them.
@@ -199,7 +199,7 @@ module _ (partial : Bool) (nodes used bases : ℕ) (m : Memory) (text : List ℕ
 -- `rwkv_load` gave 0 for a text that it was lent with the memory m, so many nodes and so many words in both runs of marks.
 abbrev pub Demand3FromText : Type 0
 Demand3FromText = (partial : Bool) (nodes used bases : ℕ) (m : Memory) (text : List ℕ) (r : ℕ) (report : List ℕ) (after : Memory)
-    → Bytes text → LoadReported partial nodes (tableRoom (length (m .table)) used bases) m text r report after → r ≡ 0
+    → Bytes text → LoadReported (loadOn partial nodes (tableRoom (length (m .table)) used bases) m text) r report after → r ≡ 0
     → (ts : List Token) × Streams partial nodes used bases m text after ts
 
 -- `from_vocab_str` or `from_vocab_str_partial` gave r, with number 0.

@@ -1,7 +1,8 @@
 // Runs the leaves of loading and the decodings on the cases of standard input, one to a line, and writes each with its answer. A case is
 // a letter for what is asked, a space, and bytes in hexadecimal: L a literal, F the fields of a vocabulary line, T the lines of a text,
-// I an id, N a length, U the beginning of a byte string that is UTF-8, S the same for a beginning and each last byte; D, X and Y ids to
-// decode to bytes, text and lossy text. `cases.py` makes the cases and, by Python's own means, the answers.
+// I an id, N a length, U the beginning of a byte string that is UTF-8, S the same for a beginning and each last byte; B a text, for what a
+// load refuses before any line; D, X and Y ids to decode to bytes, text and lossy text. `cases.py` makes the cases and, by Python's own
+// means, the answers.
 use cases::unhex;
 use cases::write;
 use cases::write_bytes;
@@ -14,6 +15,7 @@ use numbers::Number;
 
 mod decode;
 mod runs;
+mod texts;
 
 // What a literal stands for, of at most 64 bytes.
 fn literal_case(text: &[u8]) {
@@ -74,6 +76,7 @@ fn answer(kind: u8, bytes: &[u8]) {
         b'N' => number_case(bytes, 18446744073709551615, 11),
         b'U' => write_number(runs::good(bytes) as u64),
         b'S' => runs::runs_case(bytes),
+        b'B' => texts::text_case(bytes),
         b'D' | b'X' | b'Y' => decode::decode_case(kind, bytes),
         _ => write(b"?"),
     }

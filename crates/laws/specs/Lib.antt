@@ -3,6 +3,7 @@ pub mod Utf8Laws
 pub mod LineWalk
 pub mod LiteralLaws
 pub mod Tests
+pub mod FirstBad
 pub mod Tokens
 pub mod Nodes
 pub mod Numbered

@@ -8,11 +8,11 @@ use Prim.Native.Nat.{ℕ, zero, suc, pred, _+_, _/_, _%_, _≤_, _<_}
 use native.Mathlib.Nat.{not-suc-le-zero}
 use native.Mathlib.Omega.{arith}
 use lib.Dec.{leb}
-use borrow.Author.Tests.{le-leb, lt-leb, leb-true, eq-eqb}
+use borrow.Author.Tests.{le-leb, lt-leb, leb-true}
 use lib.ListN.{length, take, drop}
-use Rattle.spec.specs.Lists.{all, each, byteIn}
+use Rattle.spec.specs.Lists.{all, each}
 use Rattle.spec.specs.Utf8.{Range, _to_, within, after, Step, char, bad, cut, follow, followed, stepOf, size, isChar, Part, partOf}
-use Rattle.spec.specs.Utf8.{partsAt, parts, isWhole, wellFormed, badFrom, firstOf, firstBadFrom, firstBad, illFormedAt, replacement}
+use Rattle.spec.specs.Utf8.{partsAt, parts, isWhole, wellFormed, badPart, firstBadFrom, firstBad, replacement}
 use Rattle.spec.specs.Utf8.{shown, lossy, utf8Of, pointOf, whiteSpace, whitePart, blank}
 
 -- a number in a range, and one outside it
@@ -156,6 +156,10 @@ pub first-bad-nil : (i : ℕ) → firstBadFrom i [] ≡ none
 unfolding firstBadFrom
 first-bad-nil i = refl
 
+pub well-formed-nil : wellFormed [] ≡ true
+unfolding wellFormed
+well-formed-nil = refl
+
 pub lossy-nil : lossy [] ≡ []
 unfolding lossy
 lossy-nil = refl
@@ -168,11 +172,11 @@ blank-nil = refl
 module _ (s : List ℕ) (h : 0 < length s) where
   pub first-bad-char : (i n : ℕ) → stepOf s ≡ char n → firstBadFrom i s ≡ firstBadFrom (i + n) (drop n s)
   unfolding firstBadFrom
-  first-bad-char i n e = ap (λ ps. firstOf (badFrom i ps)) (parts-step s (char n) h e)
+  first-bad-char i n e = ap (badPart i) (parts-step s (char n) h e)
 
   pub first-bad-other : (i : ℕ) (t : Step) → stepOf s ≡ t → isChar t ≡ false → firstBadFrom i s ≡ some i
   unfolding firstBadFrom
-  first-bad-other i t e f = ap (λ ps. firstOf (badFrom i ps)) (parts-step s t h e) ∙ rw f
+  first-bad-other i t e f = ap (badPart i) (parts-step s t h e) ∙ rw f
 
   pub well-formed-char : (n : ℕ) → stepOf s ≡ char n → wellFormed s ≡ wellFormed (drop n s)
   unfolding wellFormed
@@ -207,19 +211,10 @@ pub well-formed-first : (s : List ℕ) → wellFormed s ≡ isNone (firstBad s)
 unfolding wellFormed firstBad
 well-formed-first s = go 0 (parts s)
   where
-    choose : (c : Bool) (i : ℕ) (is : List ℕ) (w : Bool) → w ≡ isNone (firstOf is) → c && w ≡ isNone (firstOf (cond c is (i ∷ is)))
-    choose true i is w e = e
-    choose false i is w e = refl
+    choose : (c : Bool) (i : ℕ) (o : Option ℕ) (w : Bool) → w ≡ isNone o → c && w ≡ isNone (cond c o (some i))
+    choose true i o w e = e
+    choose false i o w e = refl
 
-    go : (i : ℕ) (ps : List Part) → all isWhole ps ≡ isNone (firstOf (badFrom i ps))
+    go : (i : ℕ) (ps : List Part) → all isWhole ps ≡ isNone (badPart i ps)
     go i [] = refl
-    go i (p ∷ ps) = choose (isWhole p) i (badFrom (i + size (p .step)) ps) (all isWhole ps) (go (i + size (p .step)) ps)
-
--- An ill-formed sequence starts at the first bad offset.
-pub first-bad-ill : (s : List ℕ) (i : ℕ) → firstBad s ≡ some i → illFormedAt s i ≡ true
-unfolding illFormedAt firstBad
-first-bad-ill s i e = go (badFrom 0 (parts s)) e
-  where
-    go : (is : List ℕ) → firstOf is ≡ some i → byteIn is i ≡ true
-    go [] e = let z : _≡_ {A = ℕ} 0 1 = cc in absurd (omega arith)
-    go (j ∷ is) e = let h : i ≡ j = cc in rw (eq-eqb i j h)
+    go i (p ∷ ps) = choose (isWhole p) i (badPart (i + size (p .step)) ps) (all isWhole ps) (go (i + size (p .step)) ps)

@@ -8,7 +8,8 @@ use native.Mathlib.Omega.{arith}
 use lib.Dec.{leb}
 use lib.ListN.{length}
 use Rattle.spec.specs.Check.{Check, pass, refuse, given, need}
-use Rattle.spec.specs.Utf8.{wellFormed, blank}
+use Rattle.spec.specs.Utf8.{firstBad, blank}
+use Rattle.laws.specs.FirstBad.{not-well-formed, first-bad-is-first}
 use Rattle.spec.specs.Line.{lines, Fields, firstSpace, lastSpace, parted, placed, fields}
 use Rattle.spec.specs.Token.{Token}
 use Rattle.spec.specs.Layout.{tableWords}
@@ -16,7 +17,7 @@ use Rattle.spec.specs.Memory.{Memory, tooShort, memoryOf, Loaded}
 use Rattle.spec.specs.Load.{Room, idRule, lengthRule, readToken, readFields, readLine, admit, lastId, takeLine}
 use Rattle.spec.specs.Load.{Place, nowhere, line, byte, offset, Outcome, accepted, refused, missing, demanded, finish, takeLines, load}
 use Rattle.spec.specs.Load.{countsOf, LoadResult, settled, turnedDown, loadOn}
-use Rattle.spec.specs.Theorems.{LoadsLoaded}
+use Rattle.spec.specs.Theorems.{LoadsLoaded, NamesFirstBad}
 use Rattle.laws.specs.Reads.{loaded}
 use Rattle.loading.specs.Checks.{Numbered, pass-numbered, need-numbered, given-numbered, then-numbered}
 use Rattle.loading.specs.Accepted.{accepted≢refused, load-accepts}
@@ -108,19 +109,20 @@ load-accepted partial room text e = go (load partial room text) refl e
 -- ---- what a load answers and leaves
 
 -- the parts of `loadOn`, by its two tests
-module _ (k : ℕ) (partial : Bool) (nodes table : ℕ) (m : Memory) (text : List ℕ) where
+module _ (partial : Bool) (nodes table : ℕ) (m : Memory) (text : List ℕ) where
   abbrev pub stated : Outcome
   stated = load partial (record { nodes = nodes; blob = length (m .blob); table = table }) text
 
-  abbrev pub tested : Bool → Bool → LoadResult
-  tested short good = elim short [
+  abbrev pub tested : Bool → Option ℕ → LoadResult
+  tested short bad = elim short [
     | true ↦ turnedDown 1 nowhere m
-    | false ↦ elim good [ false ↦ turnedDown 2 (offset k) m | true ↦ settled m stated ]
+    | false ↦ elim bad [ some k ↦ turnedDown 2 (offset k) m | none ↦ settled m stated ]
   ]
 
-  pub by-tests : (short good : Bool) → tooShort m ≡ short → wellFormed text ≡ good → loadOn k partial nodes table m text ≡ tested short good
+  pub by-tests : (short : Bool) (bad : Option ℕ) → tooShort m ≡ short → firstBad text ≡ bad
+      → loadOn partial nodes table m text ≡ tested short bad
   unfolding loadOn
-  by-tests short good a b = ap₂ tested a b
+  by-tests short bad a b = ap₂ tested a b
 
 number-is : (m : Memory) (o : Outcome) → settled m o .answer .number ≡ numberOf o
 unfolding settled
@@ -128,41 +130,48 @@ number-is m (accepted ts) = refl
 number-is m (refused n p) = refl
 
 -- a load that answers 0: it passed both tests, and the text was accepted
-pub record Passed (k : ℕ) (partial : Bool) (nodes table : ℕ) (m : Memory) (text : List ℕ) : Type 0 where
+pub record Passed (partial : Bool) (nodes table : ℕ) (m : Memory) (text : List ℕ) : Type 0 where
   pub long : tooShort m ≡ false
-  pub good : wellFormed text ≡ true
+  pub good : firstBad text ≡ none
   pub tokens : List Token
-  pub accepts : stated k partial nodes table m text ≡ accepted tokens
+  pub accepts : stated partial nodes table m text ≡ accepted tokens
 
-pub passed : (k : ℕ) (partial : Bool) (nodes table : ℕ) (m : Memory) (text : List ℕ)
-    → loadOn k partial nodes table m text .answer .number ≡ 0 → Passed k partial nodes table m text
-passed k partial nodes table m text e =
-    go (tooShort m) (wellFormed text) refl refl
-    (ap (λ (x : LoadResult). x .answer .number) (sym (by-tests k partial nodes table m text (tooShort m) (wellFormed text) refl refl)) ∙ e)
+pub passed : (partial : Bool) (nodes table : ℕ) (m : Memory) (text : List ℕ)
+    → loadOn partial nodes table m text .answer .number ≡ 0 → Passed partial nodes table m text
+passed partial nodes table m text e =
+    go (tooShort m) (firstBad text) refl refl
+    (ap (λ (x : LoadResult). x .answer .number) (sym (by-tests partial nodes table m text (tooShort m) (firstBad text) refl refl)) ∙ e)
   where
-    go : (short good : Bool) → tooShort m ≡ short → wellFormed text ≡ good
-        → tested k partial nodes table m text short good .answer .number ≡ 0 → Passed k partial nodes table m text
-    go true good a b e = absurd (omega arith)
-    go false false a b e = absurd (omega arith)
-    go false true a b e =
-        let o = stated k partial nodes table m text in
+    go : (short : Bool) (bad : Option ℕ) → tooShort m ≡ short → firstBad text ≡ bad
+        → tested partial nodes table m text short bad .answer .number ≡ 0 → Passed partial nodes table m text
+    go true bad a b e = absurd (omega arith)
+    go false (some k) a b e = absurd (omega arith)
+    go false none a b e =
+        let o = stated partial nodes table m text in
         let (ts, q) = load-accepted partial _ text (sym (number-is m o) ∙ e) in
         record { long = a; good = b; tokens = ts; accepts = q }
 
 -- what a load that states tokens answers and leaves
-pub loads-accepted : (k : ℕ) (partial : Bool) (nodes table : ℕ) (m : Memory) (text : List ℕ) → tooShort m ≡ false → wellFormed text ≡ true
-    → (ts : List Token) → stated k partial nodes table m text ≡ accepted ts
-    → loadOn k partial nodes table m text
+pub loads-accepted : (partial : Bool) (nodes table : ℕ) (m : Memory) (text : List ℕ) → tooShort m ≡ false → firstBad text ≡ none
+    → (ts : List Token) → stated partial nodes table m text ≡ accepted ts
+    → loadOn partial nodes table m text
     ≡ record { answer = record { number = 0; place = nowhere; counts = countsOf ts }; memory = memoryOf ts m }
 unfolding settled
-loads-accepted k partial nodes table m text a b ts e = by-tests k partial nodes table m text false true a b ∙ ap (settled m) e
+loads-accepted partial nodes table m text a b ts e = by-tests partial nodes table m text false none a b ∙ ap (settled m) e
 
 -- An accepted load leaves loaded memory.
 pub loads-loaded : LoadsLoaded
-loads-loaded k partial nodes table m text h room e =
-    let P = passed k partial nodes table m text e in
+loads-loaded partial nodes table m text h room e =
+    let P = passed partial nodes table m text e in
     let ts = P .tokens in
     let (held, done) = load-accepts partial _ text h ts (P .accepts) in
     let t : tableWords ts ≤ length (m .table) = let d = done .table in omega arith in
-    let q = loads-accepted k partial nodes table m text (P .long) (P .good) ts (P .accepts) in
+    let q = loads-accepted partial nodes table m text (P .long) (P .good) ts (P .accepts) in
     (ts, P .accepts, subst (λ (x : LoadResult). Loaded (x .memory) ts) (sym q) (loaded ts m (P .long) (held .blob) t (held .valid)))
+
+-- A text that is not UTF-8 is refused at its first bad byte.
+pub names-first-bad : NamesFirstBad
+names-first-bad partial nodes table m text long bad =
+    let (k, e) = not-well-formed text bad in
+    let (inside, other, before) = first-bad-is-first text k e in
+    (k, by-tests partial nodes table m text false (some k) long e, inside, other, before)

@@ -16,7 +16,7 @@ use nodes::Node;
 ghost use Prim.Native.Nat.{_≤_, _<_};
 ghost use lib.ListN.{length};
 ghost use Rattle.spec.specs.Memory.{memory};
-ghost use Rattle.spec.specs.Load.{tableRoom};
+ghost use Rattle.spec.specs.Load.{tableRoom, loadOn};
 ghost use Rattle.reports.specs.Report.{LoadReported};
 
 // The byte at a place, 0 past the end.
@@ -58,10 +58,10 @@ fn load_in(
     report: &mut [u64; 6],
 ) -> u32
     requires { ⌜ room ≤ 4096 ⌝ }
-    ensures { λ r. ⌜ LoadReported partial room
+    ensures { λ r. ⌜ LoadReported (loadOn partial room
         (tableRoom (length (now (table .entry))) (length (now (used .entry))) (length (now («used_bases» .entry))))
         (memory (now (single .entry)) (now (offsets .entry)) (now (blob .entry)) (now (roots .entry)) (now (table .entry)))
-        (now (text .entry)) r (now (report .exit))
+        (now (text .entry))) r (now (report .exit))
         (memory (now (single .exit)) (now (offsets .exit)) (now (blob .exit)) (now (roots .exit)) (now (table .exit))) ⌝ }
 {
     let node = Node {

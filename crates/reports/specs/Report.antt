@@ -7,7 +7,7 @@ use Rattle.spec.specs.Answer as spec
 use Rattle.spec.specs.Lists.{over}
 use Rattle.spec.specs.Encode.{Output}
 use Rattle.spec.specs.Memory.{Memory}
-use Rattle.spec.specs.Load.{Place, nowhere, line, offset, byte, LoadAnswer, LoadsTo}
+use Rattle.spec.specs.Load.{Place, nowhere, line, offset, byte, LoadAnswer, LoadResult}
 use Rattle.reports.specs.declared.report.Answer.{Answer}
 
 abbrev pub answerIs : Answer → spec.Answer
@@ -43,11 +43,8 @@ abbrev pub loadReport : LoadAnswer → List ℕ
 loadReport a =
     placeKind (a .place) ∷ placeValue (a .place) ∷ a .counts .tokens ∷ a .counts .nodes ∷ a .counts .blob ∷ a .counts .table ∷ []
 
--- A load of text into m, with room for so many nodes and table words, gave the number r and its report and left the memory after: they are
--- what `LoadsTo` says of a load, number 2's offset included.
-pub record LoadReported (partial : Bool) (nodes table : ℕ) (m : Memory) (text : List ℕ)
-    (r : ℕ) (report : List ℕ) (after : Memory) : Type 0 where
-  pub answer : LoadAnswer
-  pub loads : LoadsTo partial nodes table m text (record { answer = answer; memory = after })
-  pub number : r ≡ answer .number
-  pub values : report ≡ loadReport answer
+-- A load gave the number r and its report and left the memory after, as the result o says.
+pub record LoadReported (o : LoadResult) (r : ℕ) (report : List ℕ) (after : Memory) : Type 0 where
+  pub number : r ≡ o .answer .number
+  pub values : report ≡ loadReport (o .answer)
+  pub memory : after ≡ o .memory

@@ -6,10 +6,9 @@ use mathlib.Core.Option.{Option, none, some}
 use mathlib.Core.List.{List}
 use Prim.Native.Nat.{ℕ}
 use native.Mathlib.Omega.{arith}
-use Rattle.spec.specs.Utf8.{wellFormed, firstBad}
-use Rattle.laws.specs.Utf8Laws.{isNone, well-formed-first, first-bad-ill}
+use Rattle.spec.specs.Utf8.{firstBad}
 use Rattle.spec.specs.Memory.{Memory, tooShort}
-use Rattle.spec.specs.Load.{turnedDown, LoadsTo}
+use Rattle.spec.specs.Load.{turnedDown, loadOn}
 use Rattle.loading.specs.Left.{by-tests}
 use Rattle.source.specs.SourceAnswers.{placeOf, earlyOf}
 use Rattle.source.specs.declared.LoadRefusal.{LoadRefusal}
@@ -17,23 +16,15 @@ use Rattle.source.specs.declared.LoadRefusal.{LoadRefusal}
 module _ (partial : Bool) (nodes table : ℕ) (m : Memory) (text : List ℕ) (early : LoadRefusal)
     (is : early ≡ earlyOf (tooShort m) (firstBad text)) where
   abbrev Told : LoadRefusal → Type 0
-  Told e = LoadsTo partial nodes table m text (turnedDown (e .number) (placeOf (e .place)) m)
+  Told e = turnedDown (e .number) (placeOf (e .place)) m ≡ loadOn partial nodes table m text
 
   pub early-told : (early .number ≡ 0 → ⊥) → Told early
   early-told bad =
       subst Told (sym is) (go (tooShort m) (firstBad text) refl refl (λ z. bad (ap (λ (x : LoadRefusal). x .number) is ∙ z)))
     where
       go : (b : Bool) (o : Option ℕ) → tooShort m ≡ b → firstBad text ≡ o → (earlyOf b o .number ≡ 0 → ⊥) → Told (earlyOf b o)
-      go true o eb eo h = record {
-        bad = 0;
-        result = sym (by-tests 0 partial nodes table m text true (wellFormed text) eb refl);
-        starts = λ k. absurd (omega arith);
-      }
-      go false (some i) eb eo h = record {
-        bad = i;
-        result = sym (by-tests i partial nodes table m text false false eb (well-formed-first text ∙ ap isNone eo));
-        starts = λ k. first-bad-ill text i eo;
-      }
+      go true o eb eo h = sym (by-tests partial nodes table m text true o eb eo)
+      go false (some i) eb eo h = sym (by-tests partial nodes table m text false (some i) eb eo)
       go false none eb eo h = absurd (h refl)
 
   pub not-early : early .number ≡ 0 → (tooShort m ≡ false) × (firstBad text ≡ none)

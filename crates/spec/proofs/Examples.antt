@@ -1,9 +1,9 @@
 -- The starred examples of document 01, "Examples on V and single lines": one table of theorems, a row each, by computation. Rows on V are
 -- said of the entries' own definitions, number 1 and the order of refusals included. The last rows are not starred: the lengths of a
--- token. An edit of a definition that changes what it says here is refused here. Assumes nothing.
+-- token, and document 02's first bad byte. An edit of a definition that changes what it says here is refused here. Assumes nothing.
 use mathlib.Core.Path.{_≡_, refl, ap, _∙_}
-use mathlib.Core.Bool.{true, false}
-use mathlib.Core.Option.{some}
+use mathlib.Core.Bool.{Bool, true, false}
+use mathlib.Core.Option.{none, some}
 use mathlib.Core.List.{List, [], _∷_, _++_, append-nil}
 use Prim.Native.Nat.{ℕ, _-_}
 use native.Mathlib.Nat.{sub-self}
@@ -11,7 +11,7 @@ use native.Mathlib.Omega.{arith}
 use lib.ListN.{length, getD, replicate, drop-of-length-le}
 use Rattle.spec.specs.Lists.{over}
 use Rattle.spec.specs.Check.{pass, refuse, andThen, given, need}
-use Rattle.spec.specs.Utf8.{wellFormed}
+use Rattle.spec.specs.Utf8.{firstBad}
 use Rattle.spec.specs.Digits.{digits}
 use Rattle.spec.specs.Line.{lines, fields}
 use Rattle.spec.specs.Literal.{literal}
@@ -23,7 +23,7 @@ use Rattle.spec.specs.Memory.{Memory, tooShort, padded, memoryOf, single
 use Rattle.spec.specs.Encode.{encoding, encodeAnswer, encodeOn}
 use Rattle.spec.specs.Decode.{decoding, decodeOutput, decodeOn}
 use Rattle.spec.specs.Load.{tableRoom, idRule, lengthRule, readToken, readFields, readLine, admit, lastId, takeLine, nowhere}
-use Rattle.spec.specs.Load.{accepted, missing, finish, takeLines, load, countsOf, settled, loadOn}
+use Rattle.spec.specs.Load.{offset, accepted, missing, finish, takeLines, load, countsOf, turnedDown, settled, loadOn}
 use Rattle.spec.specs.Answer.{whole}
 use Rattle.spec.specs.Stream.{StreamRecord, openPhase, endedPhase, holding, stoppedAt, fresh, Call, add, end, callRefusal}
 use Rattle.spec.specs.Stream.{goesThrough, orElse, callOn}
@@ -52,8 +52,8 @@ v-counts : countsOf vv ≡ record { tokens = 5; nodes = 5; blob = 10; table = 51
 unfolding countsOf nodeCount blobBytes tableWords
 v-counts = refl
 
-v-text : wellFormed vText ≡ true
-unfolding wellFormed
+v-text : firstBad vText ≡ none
+unfolding firstBad
 v-text = refl
 
 -- the capacity of a table of 512 words and of 8 words in each run of marks
@@ -89,13 +89,13 @@ module _ (m : Memory) (single : length (m .single) ≡ 256) (offsets : length (m
         padded-full (tableList vv) (length (m .table)) table,
       )
 
-  -- V loads: 5 tokens, 5 nodes, 10 blob bytes, 512 words; number 2's offset k plays no part
-  v-loads : (k : ℕ) → loadOn k true 5 (tableRoom 512 8 8) m vText ≡ record {
+  -- V loads: 5 tokens, 5 nodes, 10 blob bytes, 512 words
+  v-loads : loadOn true 5 (tableRoom 512 8 8) m vText ≡ record {
     answer = record { number = 0; place = nowhere; counts = record { tokens = 5; nodes = 5; blob = 10; table = 512 } };
     memory = vMemory;
   }
   unfolding loadOn settled
-  v-loads k =
+  v-loads =
       rw (long, loadOn)
       (rw v-text
       (ap (settled m) ((λ i. load true (record { nodes = 5; blob = blob i; table = v-room i }) vText) ∙ v-states)
@@ -279,3 +279,28 @@ length-256 = refl
 length-256-declared-255 : lengthRule 255 (of-length 256) ≡ refuse 14
 unfolding lengthRule need
 length-256-declared-255 = refl
+
+-- ── The first bad byte ───────────────────────────────────────────────
+
+-- Document 02, W-206, of a load into any memory that is long enough, in either mode and whatever the room. "From here on it is the offset
+-- of the first, found as in decoding to text."
+module _ (m : Memory) (enough : tooShort m ≡ false) (partial : Bool) (nodes table : ℕ) where
+  -- A, é, FF, A, 80: ill-formed at 3 and at 5
+  bad-at-two-places : loadOn partial nodes table m (0x41 ∷ 0xC3 ∷ 0xA9 ∷ 0xFF ∷ 0x41 ∷ 0x80 ∷ []) ≡ turnedDown 2 (offset 3) m
+  unfolding loadOn firstBad
+  bad-at-two-places = rw (enough, loadOn) refl
+
+  -- A and two bytes of a character of three: where that character starts
+  last-character-cut : loadOn partial nodes table m (0x41 ∷ 0xE2 ∷ 0x82 ∷ []) ≡ turnedDown 2 (offset 1) m
+  unfolding loadOn firstBad
+  last-character-cut = rw (enough, loadOn) refl
+
+  -- E2 82 41: where the part starts, not the byte that breaks it off
+  character-broken-off : loadOn partial nodes table m (0xE2 ∷ 0x82 ∷ 0x41 ∷ []) ≡ turnedDown 2 (offset 0) m
+  unfolding loadOn firstBad
+  character-broken-off = rw (enough, loadOn) refl
+
+-- 1 comes before 2, and nothing is said of where the text is bad
+short-before-bad : (m : Memory) → tooShort m ≡ true → loadOn true 0 0 m (0x41 ∷ 0xFF ∷ []) ≡ turnedDown 1 nowhere m
+unfolding loadOn
+short-before-bad m short = rw (short, loadOn) refl

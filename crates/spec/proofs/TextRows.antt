@@ -4,7 +4,7 @@ use mathlib.Core.Path.{_≡_, refl}
 use mathlib.Core.Bool.{true, false}
 use mathlib.Core.Option.{none, some}
 use mathlib.Core.List.{[], _∷_}
-use Rattle.spec.specs.Utf8.{char, bad, cut, stepOf, firstBad, illFormedAt, lossy, utf8Of, blank}
+use Rattle.spec.specs.Utf8.{char, bad, cut, stepOf, firstBad, lossy, utf8Of, blank}
 use Rattle.spec.specs.Line.{lf, cr, lines}
 use Rattle.spec.specs.Literal.{literal}
 
@@ -41,10 +41,6 @@ example-cut-off = refl
 example-first-bad : firstBad (0x41 ∷ 0xC3 ∷ 0xA9 ∷ 0xFF ∷ 0x41 ∷ 0x80 ∷ []) ≡ some 3
 unfolding firstBad
 example-first-bad = refl
-
-example-ill-formed : illFormedAt (0x41 ∷ 0xC3 ∷ 0xA9 ∷ 0xFF ∷ 0x41 ∷ 0x80 ∷ []) 5 ≡ true
-unfolding illFormedAt
-example-ill-formed = refl
 
 example-euro : utf8Of 0x20AC ≡ 0xE2 ∷ 0x82 ∷ 0xAC ∷ []
 unfolding utf8Of

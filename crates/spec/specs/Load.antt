@@ -1,6 +1,5 @@
 -- Loading a vocabulary text: which tokens it states, or which refusal it meets, where. Document 01, the table's places "text, before
 -- lines", "line" and "after the lines", and "Lines". Each test stands in the table's order. Assumes nothing.
-use mathlib.Core.Path.{_≡_}
 use mathlib.Core.Bool.{Bool, true, false, not, _||_, cond}
 use mathlib.Core.Option.{Option, none, some}
 use mathlib.Core.List.{List, [], _∷_, _++_}
@@ -8,7 +7,7 @@ use Prim.Native.Nat.{ℕ, zero, suc, _+_, _-_, _*_, _/_, _^_, min}
 use lib.Dec.{eqb, leb, ltb}
 use lib.ListN.{length}
 use Rattle.spec.specs.Check.{Check, pass, refuse, andThen, given, need}
-use Rattle.spec.specs.Utf8.{wellFormed, illFormedAt}
+use Rattle.spec.specs.Utf8.{firstBad}
 use Rattle.spec.specs.Digits.{digits}
 use Rattle.spec.specs.Line.{lines, Fields, fields}
 use Rattle.spec.specs.Literal.{literal}
@@ -159,19 +158,13 @@ unfoldable pub settled : Memory → Outcome → LoadResult
 settled m (accepted ts) = record { answer = record { number = 0; place = nowhere; counts = countsOf ts }; memory = memoryOf ts m }
 settled m (refused number place) = turnedDown number place (emptied m)
 
--- A load of text into m with room for so many nodes and table words. "After 1 and 2 nothing has changed."
--- Number 2's offset k is loose: see `LoadsTo`.
-unfoldable pub loadOn : ℕ → Bool → ℕ → ℕ → Memory → List ℕ → LoadResult
-loadOn k partial nodes table m text = elim (tooShort m) [
+-- A load of text into m with room for so many nodes and table words. "After 1 and 2 nothing has changed." Number 2's offset "is the offset
+-- of the first, found as in decoding to text" (document 02, W-206): the definition that 29 goes by.
+unfoldable pub loadOn : Bool → ℕ → ℕ → Memory → List ℕ → LoadResult
+loadOn partial nodes table m text = elim (tooShort m) [
   | true ↦ turnedDown 1 nowhere m
-  | false ↦ elim (wellFormed text) [
-    | false ↦ turnedDown 2 (offset k) m
-    | true ↦ settled m (load partial (record { nodes = nodes; blob = length (m .blob); table = table }) text)
+  | false ↦ elim (firstBad text) [
+    | some k ↦ turnedDown 2 (offset k) m
+    | none ↦ settled m (load partial (record { nodes = nodes; blob = length (m .blob); table = table }) text)
   ]
 ]
-
--- The result of a load: "Number 2's offset may be any offset where an ill-formed sequence starts." Nothing else is loose.
-pub record LoadsTo (partial : Bool) (nodes table : ℕ) (m : Memory) (text : List ℕ) (r : LoadResult) : Type 0 where
-  pub bad : ℕ
-  pub result : r ≡ loadOn bad partial nodes table m text
-  pub starts : r .answer .number ≡ 2 → illFormedAt text bad ≡ true

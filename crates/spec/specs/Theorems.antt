@@ -6,20 +6,21 @@ use mathlib.Core.Bool.{Bool, true, false}
 use mathlib.Core.Option.{Option, none, some}
 use mathlib.Core.List.{List, _∷_, _++_}
 use Prim.Native.Nat.{ℕ, _+_, _^_, _≤_, _<_}
-use lib.ListN.{length, take, getD}
+use lib.ListN.{length, take, drop, getD}
 use Rattle.spec.specs.Lists.{all, Bytes}
+use Rattle.spec.specs.Utf8.{stepOf, isChar, wellFormed}
 use Rattle.spec.specs.Token.{Token, longest, undecided, bytesOf, joined, present, Full}
 use Rattle.spec.specs.Scan.{End, done, failed, scan}
 use Rattle.spec.specs.Trie.{nodeCount}
 use Rattle.spec.specs.Layout.{tableWords}
 use Rattle.spec.specs.Valid.{Valid}
-use Rattle.spec.specs.Memory.{Memory, blobBytes, Loaded}
+use Rattle.spec.specs.Memory.{Memory, tooShort, blobBytes, Loaded}
 use Rattle.spec.specs.Match.{Match, nothing, found, matchOn, undecidedOn}
 use Rattle.spec.specs.Encode.{EncodeEnd, encoding}
 use Rattle.spec.specs.Encode as encode
 use Rattle.spec.specs.Decode.{lookup, decoding}
 use Rattle.spec.specs.Decode as decode
-use Rattle.spec.specs.Load.{Room, byte, accepted, refused, load, loadOn}
+use Rattle.spec.specs.Load.{Room, offset, byte, accepted, refused, load, turnedDown, loadOn}
 use Rattle.spec.specs.Stream.{Call, callRefusal, fresh}
 use Rattle.spec.specs.Plain.{
   Phase,
@@ -118,10 +119,17 @@ LoadsValid = (partial : Bool) (room : Room) (text : List ℕ) → Bytes text →
 
 -- An accepted load leaves loaded memory: from a text to the theorems on matching, encoding and decoding.
 abbrev pub LoadsLoaded : Type 0
-LoadsLoaded = (k : ℕ) (partial : Bool) (nodes table : ℕ) (m : Memory) (text : List ℕ) → Bytes text → table ≤ length (m .table)
-    → loadOn k partial nodes table m text .answer .number ≡ 0
+LoadsLoaded = (partial : Bool) (nodes table : ℕ) (m : Memory) (text : List ℕ) → Bytes text → table ≤ length (m .table)
+    → loadOn partial nodes table m text .answer .number ≡ 0
     → (ts : List Token) × (load partial (record { nodes = nodes; blob = length (m .blob); table = table }) text ≡ accepted ts)
-    × Loaded (loadOn k partial nodes table m text .memory) ts
+    × Loaded (loadOn partial nodes table m text .memory) ts
+
+-- A text that is not UTF-8 is refused with 2 at "the offset of the first" bad byte (document 02, W-206): it lies in the text, no character
+-- starts there, and all before it is UTF-8. Nothing has changed.
+abbrev pub NamesFirstBad : Type 0
+NamesFirstBad = (partial : Bool) (nodes table : ℕ) (m : Memory) (text : List ℕ) → tooShort m ≡ false → wellFormed text ≡ false
+    → (k : ℕ) × (loadOn partial nodes table m text ≡ turnedDown 2 (offset k) m)
+    × (k < length text) × (isChar (stepOf (drop k text)) ≡ false) × (wellFormed (take k text) ≡ true)
 
 -- In full mode every byte has a one-byte token.
 abbrev pub FullIsFull : Type 0

@@ -8,7 +8,7 @@ use mathlib.Core.List.{List, [], _∷_}
 use Prim.Native.Nat.{ℕ, zero, suc, pred, _+_, _*_, _/_, _%_}
 use lib.Dec.{leb}
 use lib.ListN.{take}
-use Rattle.spec.specs.Lists.{any, all, each, byteIn}
+use Rattle.spec.specs.Lists.{any, all, each}
 
 -- ── Ranges of numbers ────────────────────────────────────────────────
 
@@ -132,29 +132,20 @@ unfoldable pub wellFormed : List ℕ → Bool
 unfolding all partsAt
 wellFormed s = all isWhole (parts s)
 
--- the offsets of the parts that are no characters, the first part standing at i
-unfoldable pub badFrom : ℕ → List Part → List ℕ
-badFrom i [] = []
-badFrom i (p ∷ ps) = cond (isWhole p) (badFrom (i + size (p .step)) ps) (i ∷ badFrom (i + size (p .step)) ps)
-
-abbrev pub firstOf : List ℕ → Option ℕ
-firstOf [] = none
-firstOf (i ∷ is) = some i
+-- the offset of the first part that is no character, the first of all standing at i
+unfoldable pub badPart : ℕ → List Part → Option ℕ
+badPart i [] = none
+badPart i (p ∷ ps) = cond (isWhole p) (badPart (i + size (p .step)) ps) (some i)
 
 -- the first bad offset of a string that stands at i
 unfoldable pub firstBadFrom : ℕ → List ℕ → Option ℕ
-unfolding badFrom partsAt
-firstBadFrom i s = firstOf (badFrom i (parts s))
+unfolding badPart partsAt
+firstBadFrom i s = badPart i (parts s)
 
--- The first bad offset (29), none if the string is UTF-8.
+-- The first bad offset (2 and 29), none if the string is UTF-8.
 unfoldable pub firstBad : List ℕ → Option ℕ
 unfolding firstBadFrom
 firstBad s = firstBadFrom 0 s
-
--- "Number 2's offset may be any offset where an ill-formed sequence starts."
-unfoldable pub illFormedAt : List ℕ → ℕ → Bool
-unfolding byteIn badFrom partsAt
-illFormedAt s i = byteIn (badFrom 0 (parts s)) i
 
 -- ── Lossy text ───────────────────────────────────────────────────────
 

@@ -9,7 +9,7 @@ ghost use mathlib.Core.Path.{_≡_};
 ghost use mathlib.Core.Bool.{true, false};
 ghost use lib.ListN.{length};
 ghost use Rattle.spec.specs.Memory.{memory};
-ghost use Rattle.spec.specs.Load.{tableRoom, load, settled, LoadsTo};
+ghost use Rattle.spec.specs.Load.{tableRoom, load, settled, loadOn};
 ghost use Rattle.laws.specs.Reads.{LongEnough};
 ghost use Rattle.tokens.specs.Built.{roomFor};
 ghost use Rattle.answers.specs.Answers.{answerOf, loaded, WorkKept};
@@ -66,9 +66,8 @@ fn load_text(
     answers::settle(st, end, single, offsets, blob, roots, table)
 }
 
-// A load of any bytes, in partial or full mode. Two things are loose: what the work memory holds afterwards is anything, but after 1 and 2
-// what it was (and its lengths stay: a slice keeps its length by its type); number 2's offset is any where an ill-formed sequence starts.
-// `LoadsTo` fixes all else.
+// A load of any bytes, in partial or full mode. One thing is loose: what the work memory holds afterwards is anything, but after 1 and 2
+// what it was (and its lengths stay: a slice keeps its length by its type). `loadOn` gives all else; number 2 has the first bad offset.
 pub fn from_vocab_str_mode(
     text: &[u8],
     partial: bool,
@@ -81,11 +80,12 @@ pub fn from_vocab_str_mode(
     used: &mut [u64],
     used_bases: &mut [u64],
 ) -> Load
-    ensures loads { λ r. ⌜ LoadsTo partial (length (now (nodes .entry)))
+    ensures loads { λ r. ⌜ loaded r
+        (memory (now (single .exit)) (now (offsets .exit)) (now (blob .exit)) (now (roots .exit)) (now (table .exit)))
+        ≡ loadOn partial (length (now (nodes .entry)))
         (tableRoom (length (now (table .entry))) (length (now (used .entry))) (length (now («used_bases» .entry))))
         (memory (now (single .entry)) (now (offsets .entry)) (now (blob .entry)) (now (roots .entry)) (now (table .entry)))
-        (now (text .entry))
-        (loaded r (memory (now (single .exit)) (now (offsets .exit)) (now (blob .exit)) (now (roots .exit)) (now (table .exit)))) ⌝ }
+        (now (text .entry)) ⌝ }
     ensures work { λ r. ⌜ WorkKept (answerOf r .number) (now (nodes .entry)) (now (used .entry)) (now («used_bases» .entry))
         (now (nodes .exit)) (now (used .exit)) (now («used_bases» .exit)) ⌝ }
 {
@@ -119,11 +119,12 @@ pub fn from_vocab_str(
     used: &mut [u64],
     used_bases: &mut [u64],
 ) -> Load
-    ensures loads { λ r. ⌜ LoadsTo false (length (now (nodes .entry)))
+    ensures loads { λ r. ⌜ loaded r
+        (memory (now (single .exit)) (now (offsets .exit)) (now (blob .exit)) (now (roots .exit)) (now (table .exit)))
+        ≡ loadOn false (length (now (nodes .entry)))
         (tableRoom (length (now (table .entry))) (length (now (used .entry))) (length (now («used_bases» .entry))))
         (memory (now (single .entry)) (now (offsets .entry)) (now (blob .entry)) (now (roots .entry)) (now (table .entry)))
-        (now (text .entry))
-        (loaded r (memory (now (single .exit)) (now (offsets .exit)) (now (blob .exit)) (now (roots .exit)) (now (table .exit)))) ⌝ }
+        (now (text .entry)) ⌝ }
     ensures work { λ r. ⌜ WorkKept (answerOf r .number) (now (nodes .entry)) (now (used .entry)) (now («used_bases» .entry))
         (now (nodes .exit)) (now (used .exit)) (now («used_bases» .exit)) ⌝ }
 {
@@ -153,11 +154,12 @@ pub fn from_vocab_str_partial(
     used: &mut [u64],
     used_bases: &mut [u64],
 ) -> Load
-    ensures loads { λ r. ⌜ LoadsTo true (length (now (nodes .entry)))
+    ensures loads { λ r. ⌜ loaded r
+        (memory (now (single .exit)) (now (offsets .exit)) (now (blob .exit)) (now (roots .exit)) (now (table .exit)))
+        ≡ loadOn true (length (now (nodes .entry)))
         (tableRoom (length (now (table .entry))) (length (now (used .entry))) (length (now («used_bases» .entry))))
         (memory (now (single .entry)) (now (offsets .entry)) (now (blob .entry)) (now (roots .entry)) (now (table .entry)))
-        (now (text .entry))
-        (loaded r (memory (now (single .exit)) (now (offsets .exit)) (now (blob .exit)) (now (roots .exit)) (now (table .exit)))) ⌝ }
+        (now (text .entry)) ⌝ }
     ensures work { λ r. ⌜ WorkKept (answerOf r .number) (now (nodes .entry)) (now (used .entry)) (now («used_bases» .entry))
         (now (nodes .exit)) (now (used .exit)) (now («used_bases» .exit)) ⌝ }
 {

@@ -17,6 +17,7 @@ use denote.Laws.{Is}
 use denote.Slice.{sliceVal}
 use denote.Struct.Laws as LL
 use Rattle.spec.specs.Memory.{Memory as Lent-memory}
+use Rattle.spec.specs.Load.{loadOn}
 use Rattle.nodes.specs.declared.Node.{Node}
 use Rattle.nodes.specs.Run.{blank}
 use Rattle.nodes.proofs.Node as NodeT
@@ -34,10 +35,10 @@ is-blank = LL.owes NodeT.the-type NodeT.Laws.the-laws blank
     ((refl, lit< tt), ((refl, lit< tt), ((refl, lit< tt), ((refl, lit< tt), ((refl, lit< tt), ((refl, lit< tt), tt))))))
 
 -- a load's report is of as many nodes as were lent
-at-room : {partial : Bool} {n k table r : ℕ} {m after : Lent-memory} {text report : List ℕ} → n ≡ k
-    → LoadReported partial n table m text r report after → LoadReported partial k table m text r report after
-at-room {partial} {n} {k} {table} {r} {m} {after} {text} {report} e l =
-    subst (λ (j : ℕ). LoadReported partial j table m text r report after) e l
+at-room : (partial : Bool) (table : ℕ) (m : Lent-memory) (text : List ℕ) {n k r : ℕ} {report : List ℕ} {after : Lent-memory} → n ≡ k
+    → LoadReported (loadOn partial n table m text) r report after → LoadReported (loadOn partial k table m text) r report after
+at-room partial table m text {n} {k} {r} {report} {after} e l =
+    subst (λ (j : ℕ). LoadReported (loadOn partial j table m text) r report after) e l
 
 abbrev Rep : RattleType
 Rep = Array u64 tt 6
@@ -108,7 +109,7 @@ module _ {M : Type 1} (𝓤 : URA M) (H : Heap 𝓤) (A : Atoms 𝓤) (W : Given
         let ends : Ends ps = (tt, (tt, (e .0, (e .1 .0, (e .1 .1 .0, (e .1 .1 .1 .0, (e .1 .1 .1 .1 .0, (tt, e .1 .1 .1 .1 .1 .1)))))))) in
         let far = long .1 .1 .1 in
         by ! (ends-with 𝓤 H A W ps pl κs qs a vss u32 (uint-plain 𝓤 H A W w32) Ens w r is ends
-        (long .0, (long .1 .0, (long .1 .1 .0, (far .0, (far .1 .0, far .1 .1 .1))))) (said1 𝓤 H A (at-room shown (er .0)))))))
+        (long .0, (long .1 .0, (long .1 .1 .0, (far .0, (far .1 .0, far .1 .1 .1))))) (said1 𝓤 H A (at-room _ _ _ _ shown (er .0)))))))
 
 pub load-in-spec : {M : Type 1} → f.Statement.statement M
 unfolding code.routine tablesOf

@@ -1,5 +1,5 @@
 -- `rwkv_tokenizer::load::rwkv_load` meets its contract: a walk of its MIR, by hand. Assumes nothing.
-use Rattle.walks.specs.Prelude.{_≡_, refl, subst, ℕ, _≤_, Bool, List, [], _∷_, URA, w32, SProp, id⊢, Memory, Routine, Heap, WpFn, Tables}
+use Rattle.walks.specs.Prelude.{_≡_, refl, ap, _∙_, subst, ℕ, _≤_, List, [], _∷_, URA, w32, SProp, id⊢, Memory, Routine, Heap, WpFn, Tables}
 use Rattle.walks.specs.Prelude.{Atoms, Fun, givenOf, tables, tablesOf, Given, _$_, !, by, look, stop, hop, from, addr, returns, i32, u8}
 use Rattle.walks.specs.Prelude.{u32, u64, bool, Meets, tripleOf, atExit, entered, cited, Par, value, copied, lent, borrowed, Lfs, Shs}
 use Rattle.walks.specs.Prelude.{Dens, Vss, Ends, Plain, Plains, Known, spelled, fitted, met, ends-with, Walked, starts, reborrow, Bind}
@@ -7,7 +7,7 @@ use Rattle.walks.specs.Prelude.{at, calls-of, copies, leaves, told0, told2, sai
 use denote.RattleType.{RattleType}
 use denote.Builtin.{Array}
 use Rattle.spec.specs.Memory.{Memory as Lent-memory}
-use Rattle.spec.specs.Load.{LoadsTo}
+use Rattle.spec.specs.Load.{LoadResult}
 use Rattle.nodes.specs.Run.{Nodes}
 use Rattle.nodes.proofs.Node as NodeT
 use Rattle.answers.specs.declared.Load.{Load}
@@ -21,13 +21,17 @@ use Rattle.rwkv_tokenizer.proofs.load.rwkv_load as f
 use Rattle.rwkv_tokenizer.proofs.load.rwkv_load.Code as code
 
 -- the answer of the load, as numbers
-told : {partial : Bool} {nodes table : ℕ} {m after : Lent-memory} {text report : List ℕ} {ns ns′ : Nodes} {us vs us′ vs′ : List ℕ}
+told : {o : LoadResult} {after : Lent-memory} {report : List ℕ} {ns ns′ : Nodes} {us vs us′ vs′ : List ℕ}
     (a : Load) (r : ℕ)
-    → LoadsTo partial nodes table m text (loaded a after) × WorkKept (answerOf a .number) ns us vs ns′ us′ vs′
+    → (loaded a after ≡ o) × WorkKept (answerOf a .number) ns us vs ns′ us′ vs′
     → (r ≡ answerOf a .number) × (report ≡ loadReport (answerOf a))
-    → LoadReported partial nodes table m text r report after × WorkKept r ns us vs ns′ us′ vs′
+    → LoadReported o r report after × WorkKept r ns us vs ns′ us′ vs′
 told a r l e = (
-  record { answer = answerOf a; loads = l .0; number = e .0; values = e .1 },
+  record {
+    number = e .0 ∙ ap (λ (x : LoadResult). x .answer .number) (l .0);
+    values = e .1 ∙ ap (λ (x : LoadResult). loadReport (x .answer)) (l .0);
+    memory = ap (λ (x : LoadResult). x .memory) (l .0);
+  },
   (λ j k. l .1 (subst (λ (n : ℕ). 1 ≤ n) (e .0) j) (subst (λ (n : ℕ). n ≤ 2) (e .0) k)),
 )
 
