@@ -82,7 +82,12 @@ fn shows_where_the_first_bad_byte_is() {
     let shown = format!("     1 | ..{}\\xff{}..\n", "é".repeat(100), "a".repeat(196));
     for (name, text, place, line) in [
         ("two_places", &b"1 'a' 1\n2 '\xff' 1\n3 '\x80' 1\n"[..], "line 2, column 4, byte offset 11", "     2 | 2 '\\xff' 1\n"),
-        ("after_characters", b"1 'a' 1\n2 '\xc3\xa9\xe2\x82\xac\xe2\x82' 9", "line 2, column 6, byte offset 16", "     2 | 2 'é€\\xe2\\x82' 9\n"),
+        (
+            "characters",
+            b"0\n1 '\xc3\xa9\xe2\x82\xac\xf0\x9f' 9",
+            "line 2, column 6, byte offset 10",
+            "     2 | 1 'é€\\xf0\\x9f' 9\n",
+        ),
         ("cut", b"1 'a' 1\n\xf0\x9f", "line 2, column 1, byte offset 8", "     2 | \\xf0\\x9f\n"),
         ("broken_off", b"\xe2\x82A", "line 1, column 1, byte offset 0", "     1 | \\xe2\\x82A\n"),
         ("long_line", &long, "line 1, column 304, byte offset 603", &shown),

@@ -138,7 +138,7 @@ pub fn damaged(tally: &mut Tally) {
     }
 }
 
-/// Texts that are not UTF-8: number 2 at the place where Rust's standard library finds the first fault.
+/// Texts that are not UTF-8, in one place or in two: number 2 at the place where Rust's standard library finds the first fault.
 pub fn not_utf8(tally: &mut Tally) {
     let mut random = Random::new(2);
     let mut lent = small();
@@ -147,9 +147,11 @@ pub fn not_utf8(tally: &mut Tally) {
         0xf4, 0xf5, 0xff,
     ];
     for _ in 0..40_000 {
-        let len = random.below(7);
+        let (len, more) = (random.below(7), random.below(4));
         let mut text = b"1 'a' 1\n2 '".to_vec();
         text.extend(random.bytes(&bytes, len));
+        text.extend_from_slice(b"' 1\n3 '");
+        text.extend(random.bytes(&bytes, more));
         text.extend_from_slice(b"' 1\n");
         let (number, report) = lent.load(&text, true);
         let (same, offset) = match std::str::from_utf8(&text) {
