@@ -214,7 +214,8 @@ def cases():
     # texts with one bad place, two, or none: at the start, within lines, at the end, and with memory too short for any of them
     bad = (b"\x80", b"\xbf", b"\xc0\xaf", b"\xc1", b"\xc3", b"\xe0\x9f\xbf", b"\xe2", b"\xe2\x82", b"\xed\xa0\x80", b"\xef\xbf",
            b"\xf0\x8f\xbf\xbf", b"\xf0\x9f", b"\xf0\x9f\x98", b"\xf4\x90\x80\x80", b"\xf5\x80", b"\xfe", b"\xff")
-    texts = [b"", b"A\xc3\xa9\xffA\x80", b"A\xe2\x82", b"\xe2\x82A", b"1 'a' 1\n", "1 'é€𝄞' 9\n".encode(), b"1 '\xe2\n\x82\xac' 3", b"\r\xff\n"]
+    texts = [b"", b"A\xc3\xa9\xffA\x80", b"A\xe2\x82", b"\xe2\x82A", b"1 'a' 1\n", "1 'é€𝄞' 9\n".encode(),
+             b"1 '\xe2\n\x82\xac' 3", b"\r\xff\n"]
     for part in bad:
         texts += [part, b"1 'a' 1\n2 '" + part, b"1 '" + part + b"' 1\n2 '" + part + b"' 1\n", "1 'é€𝄞".encode() + part + b"\xff' 1\n"]
     texts += ["é".encode() + first + second + b"a\xff" for first in bad for second in bad]

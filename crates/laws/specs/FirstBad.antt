@@ -10,7 +10,7 @@ use lib.ListN.{length, take, drop, length-drop}
 use lib.Seq.{length-take-le, take-add, drop-at, drop-drop}
 use Rattle.spec.specs.Utf8.{Range, within, after, Step, char, bad, cut, follow, followed, stepOf, size, isChar, wellFormed}
 use Rattle.spec.specs.Utf8.{firstBadFrom, firstBad}
-use Rattle.laws.specs.Utf8Laws.{step-least, step-within, first-bad-zero, first-bad-nil, first-bad-char, first-bad-other}
+use Rattle.laws.specs.Utf8Laws.{char-within, first-bad-zero, first-bad-nil, first-bad-char, first-bad-other}
 use Rattle.laws.specs.Utf8Laws.{well-formed-nil, well-formed-char, isNone, well-formed-first}
 use Rattle.laws.specs.Tests.{clash}
 
@@ -62,8 +62,7 @@ follow-kept n (r ∷ rs) (b ∷ s) m (suc k) e h = go (within r b) (λ q. follow
 step-kept : (s : List ℕ) (n k : ℕ) → stepOf s ≡ char n → n ≤ k → stepOf (take k s) ≡ char n
 unfolding stepOf
 step-kept [] n k e h = absurd (not-char (cut 0) n refl e)
-step-kept (b ∷ s) n zero e h =
-    absurd (let z = subst (λ (t : Step). 0 < size t) e (step-least (b ∷ s) (omega arith)) in omega arith)
+step-kept (b ∷ s) n zero e h = absurd (let z = char-within (b ∷ s) n (omega arith) e in omega arith)
 step-kept (b ∷ s) n (suc k) e h = go (after b) e
   where
     go : (o : Option (List Range)) → followed o s ≡ char n → followed o (take k s) ≡ char n
@@ -86,11 +85,11 @@ here s i k h e t q f =
 -- what is bad after a character of n bytes
 past : (s : List ℕ) (i k n : ℕ) → 0 < length s → stepOf s ≡ char n → First (drop n s) (i + n) k → First s i k
 past s i k n h q (j, a, l, o, w) =
-    let most : n ≤ length s = subst (λ (t : Step). size t ≤ length s) q (step-within s) in
-    let least : 0 < n = subst (λ (t : Step). 0 < size t) q (step-least s h) in
+    let (least, most) = char-within s n h q in
     let inside : n + j < length s = omega (arith, simp length-drop at l) in
     let whole = length-take-le (n + j) s (omega arith) in
-    let rest : drop n (take (n + j) s) ≡ take j (drop n s) = ap (drop n) (take-add n j s) ∙ drop-at (take n s) _ n (length-take-le n s most) in (
+    let rest : drop n (take (n + j) s) ≡ take j (drop n s) = ap (drop n) (take-add n j s)
+    ∙ drop-at (take n s) _ n (length-take-le n s most) in (
       n + j,
       omega arith,
       inside,
@@ -110,7 +109,7 @@ first-in (suc f) (b ∷ s) h i k e = go (stepOf (b ∷ s)) refl (λ r l i k e. f
     go : (t : Step) → stepOf (b ∷ s) ≡ t → ((r : List ℕ) → length r ≤ f → (i k : ℕ) → firstBadFrom i r ≡ some k → First r i k)
         → First (b ∷ s) i k
     go (char n) q ih =
-        let least : 0 < n = subst (λ (t : Step). 0 < size t) q (step-least (b ∷ s) (omega arith)) in
+        let (least, most) = char-within (b ∷ s) n (omega arith) q in
         let fewer : length (drop n (b ∷ s)) ≤ f = simp length-drop (omega arith) in
         past (b ∷ s) i k n (omega arith) q
         (ih (drop n (b ∷ s)) fewer (i + n) k (sym (first-bad-char (b ∷ s) (omega arith) i n q) ∙ e))

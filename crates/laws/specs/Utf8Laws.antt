@@ -112,11 +112,11 @@ step-pos b s = go (after b)
     go none = omega arith
     go (some rs) = follow-pos 1 rs s (omega arith)
 
-pub step-least : (s : List ℕ) → 0 < length s → 0 < size (stepOf s)
+step-least : (s : List ℕ) → 0 < length s → 0 < size (stepOf s)
 step-least [] h = absurd (not-suc-le-zero h)
 step-least (b ∷ s) h = step-pos b s
 
-pub step-within : (s : List ℕ) → size (stepOf s) ≤ length s
+step-within : (s : List ℕ) → size (stepOf s) ≤ length s
 unfolding stepOf
 step-within [] = omega arith
 step-within (b ∷ s) = go (after b)
@@ -124,6 +124,10 @@ step-within (b ∷ s) = go (after b)
     go : (o : Option (List Range)) → size (followed o s) ≤ suc (length s)
     go none = omega arith
     go (some rs) = omega (arith, follow-within 1 rs s)
+
+pub char-within : (s : List ℕ) (n : ℕ) → 0 < length s → stepOf s ≡ char n → (0 < n) × (n ≤ length s)
+char-within s n h e =
+    (subst (λ (t : Step). 0 < size t) e (step-least s h), subst (λ (t : Step). size t ≤ length s) e (step-within s))
 
 -- Bytes that belong to a part before are left out.
 pub partsAt-drop : (k : ℕ) (s : List ℕ) → partsAt k s ≡ parts (drop k s)

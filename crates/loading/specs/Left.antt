@@ -9,7 +9,6 @@ use lib.Dec.{leb}
 use lib.ListN.{length}
 use Rattle.spec.specs.Check.{Check, pass, refuse, given, need}
 use Rattle.spec.specs.Utf8.{firstBad, blank}
-use Rattle.laws.specs.FirstBad.{not-well-formed, first-bad-is-first}
 use Rattle.spec.specs.Line.{lines, Fields, firstSpace, lastSpace, parted, placed, fields}
 use Rattle.spec.specs.Token.{Token}
 use Rattle.spec.specs.Layout.{tableWords}
@@ -18,6 +17,7 @@ use Rattle.spec.specs.Load.{Room, idRule, lengthRule, readToken, readFields, re
 use Rattle.spec.specs.Load.{Place, nowhere, line, byte, offset, Outcome, accepted, refused, missing, demanded, finish, takeLines, load}
 use Rattle.spec.specs.Load.{countsOf, LoadResult, settled, turnedDown, loadOn}
 use Rattle.spec.specs.Theorems.{LoadsLoaded, NamesFirstBad}
+use Rattle.laws.specs.FirstBad.{not-well-formed, first-bad-is-first}
 use Rattle.laws.specs.Reads.{loaded}
 use Rattle.loading.specs.Checks.{Numbered, pass-numbered, need-numbered, given-numbered, then-numbered}
 use Rattle.loading.specs.Accepted.{accepted≢refused, load-accepts}

@@ -1,6 +1,5 @@
 -- The values of an answer, as a report holds them. Assumes nothing.
 use mathlib.Core.Path.{_≡_}
-use mathlib.Core.Bool.{Bool}
 use mathlib.Core.List.{List, [], _∷_}
 use Prim.Native.Nat.{ℕ}
 use Rattle.spec.specs.Answer as spec

@@ -1,5 +1,5 @@
 -- The step of a string, as the loop of `step_at` finds it: where it starts, and one lemma for each way a turn can go. Assumes nothing.
-use mathlib.Core.Path.{_≡_, refl, ap, _∙_, sym, subst}
+use mathlib.Core.Path.{_≡_, refl, ap, _∙_, sym}
 use mathlib.Core.Bool.{true, false}
 use mathlib.Core.Option.{Option, none, some}
 use mathlib.Core.List.{List, [], _∷_}
@@ -9,8 +9,8 @@ use native.Mathlib.Numerals.{add-one}
 use native.Mathlib.Omega.{arith}
 use lib.ListN.{length, getD, drop, replicate, length-drop, drop-of-length-le}
 use lib.Seq.{drop-cons, drop-drop}
-use Rattle.spec.specs.Utf8.{Range, _to_, within, tail, grammar, after, Step, char, bad, cut, size, isChar, follow, followed, stepOf}
-use Rattle.laws.specs.Utf8Laws.{step-nil, step-cons, step-least, step-within, first-bad-nil, first-bad-char, first-bad-other}
+use Rattle.spec.specs.Utf8.{Range, _to_, within, tail, grammar, after, Step, char, bad, cut, isChar, follow, followed, stepOf}
+use Rattle.laws.specs.Utf8Laws.{step-nil, step-cons, char-within, first-bad-nil, first-bad-char, first-bad-other}
 use Rattle.spec.specs.Utf8.{firstBadFrom}
 use denote.Enum.Declared.{tagOf, declared}
 use types.Run.{OneOf}
@@ -84,16 +84,7 @@ module _ (s : List ℕ) (i : ℕ) (h : i < length s) where
 
   -- a character takes at least one byte, and no more than there are
   pub char-size : (n : ℕ) → stepOf (drop i s) ≡ char n → (0 < n) × (i + n ≤ length s)
-  char-size n e = (least, most)
-    where
-      least : 0 < n
-      least = subst (λ (t : Step). 0 < size t) e (step-least (drop i s) some-left)
-
-      within-rest : n ≤ length (drop i s)
-      within-rest = subst (λ (t : Step). size t ≤ length (drop i s)) e (step-within (drop i s))
-
-      most : i + n ≤ length s
-      most = omega (arith, simp length-drop at within-rest)
+  char-size n e = let (least, most) = char-within (drop i s) n some-left e in (least, omega (arith, simp length-drop at most))
 
   pub ascii-char : getD s i 0 < 0x80 → stepOf (drop i s) ≡ char 1
   unfolding grammar follow
