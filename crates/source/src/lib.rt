@@ -24,7 +24,7 @@ pub struct LoadRefusal {
     pub place: Place,
 }
 
-// 1 and 2, which are told before anything is written; number 0 where neither holds.
+// 1 and 2, which are told before anything is written, 2 at the first bad byte of the text; number 0 where neither holds.
 pub fn early_refusal(text: &[u8], single: &[i32], offsets: &[u32], roots: &[u64]) -> LoadRefusal
     ensures { λ r. ⌜ ((blob table : List ℕ)
         → r ≡ earlyOf (tooShort (memory (now (single .entry)) (now (offsets .entry)) blob (now (roots .entry)) table))
