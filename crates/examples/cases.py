@@ -59,6 +59,14 @@ def number(text, limit):
     return int(text)
 
 
+def hex_digit(byte):
+    """The value of a hexadecimal digit, or None."""
+    try:
+        return int(bytes([byte]), 16)
+    except ValueError:
+        return None
+
+
 def shown(parts):
     return "".join("[%s]" % part.hex() for part in parts)
 
@@ -138,6 +146,9 @@ def answer(kind, case):
         return "refused %d" % value if isinstance(value, int) else shown(value)
     if kind == "T":
         return shown(lines(case))
+    if kind == "H":
+        value = hex_digit(case[0])
+        return "none" if value is None else str(value)
     value = number(case, 2**32 - 1 if kind == "I" else 2**64 - 1)
     return "refused %d" % (6 if kind == "I" else 11) if value is None else str(value)
 
@@ -169,6 +180,11 @@ def cases():
     for digits in ("00", "7f", "80", "ff", "FF", "fF", "g0", "0g", "f", ""):
         yield "L", ("'\\x%s'" % digits).encode()
         yield "L", ("b'\\x%s'" % digits).encode()
+    # every byte as a hexadecimal digit, alone and at each place behind `x`
+    for byte in range(256):
+        yield "H", bytes([byte])
+        yield "L", b"b'\\x" + bytes([byte]) + b"0'"
+        yield "L", b"b'\\x0" + bytes([byte]) + b"'"
     for text in ("é", "€", "𝄞", "é\\n€"):
         yield "L", ("'%s'" % text).encode()
     # none, one, two, three CR, with and without LF

@@ -1,8 +1,8 @@
 // Runs the leaves of loading and the decodings on the cases of standard input, one to a line, and writes each with its answer. A case is
 // a letter for what is asked, a space, and bytes in hexadecimal: L a literal, F the fields of a vocabulary line, T the lines of a text,
-// I an id, N a length, U the beginning of a byte string that is UTF-8, S the same for a beginning and each last byte; B a text, for what a
-// load refuses before any line; D, X and Y ids to decode to bytes, text and lossy text. `cases.py` makes the cases and, by Python's own
-// means, the answers.
+// I an id, N a length, H a byte as a hexadecimal digit, U the beginning of a byte string that is UTF-8, S the same for a beginning and
+// each last byte; B a text, for what a load refuses before any line; D, X and Y ids to decode to bytes, text and lossy text. `cases.py`
+// makes the cases and, by Python's own means, the answers.
 use cases::unhex;
 use cases::write;
 use cases::write_bytes;
@@ -41,6 +41,17 @@ fn number_case(text: &[u8], limit: u64, refusal: u64) {
     }
 }
 
+// The value of a byte as a hexadecimal digit, if it is one.
+fn digit_case(text: &[u8]) {
+    if text.len() == 0 {
+        return;
+    }
+    match numbers::hex_digit(text[0]) {
+        Number::Value(v) => write_number(v),
+        Number::Bad => write(b"none"),
+    }
+}
+
 // The three fields of a line, or its refusal.
 fn fields_case(text: &[u8]) {
     match line::split_fields(text) {
@@ -74,6 +85,7 @@ fn answer(kind: u8, bytes: &[u8]) {
         b'T' => lines_case(bytes),
         b'I' => number_case(bytes, 4294967295, 6),
         b'N' => number_case(bytes, 18446744073709551615, 11),
+        b'H' => digit_case(bytes),
         b'U' => write_number(runs::good(bytes) as u64),
         b'S' => runs::runs_case(bytes),
         b'B' => texts::text_case(bytes),

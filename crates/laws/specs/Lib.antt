@@ -1,8 +1,8 @@
--- The laws of the definitions, in the order in which to read them: text first, then the packed trie, then the stream.
+-- The laws of the definitions, in the order in which to read them: tests and text first, then the packed trie, then the stream.
+pub mod Tests
 pub mod Utf8Laws
 pub mod LineWalk
 pub mod LiteralLaws
-pub mod Tests
 pub mod FirstBad
 pub mod Tokens
 pub mod Nodes

@@ -8,8 +8,8 @@ use native.Mathlib.Omega.{arith}
 use lib.Bits.{bitXor, bitAnd, bitOr, xor-lt, and-shr, and-mod, or-shr, or-mod, shifted-even}
 use lib.Dec.{eqb, lit<, ltb, leb}
 use lib.Pow.{pow-add, shl-shr, shr-shr}
-use borrow.Author.Tests.{eqb-true, eqb-false, ltb-true, leb-true, ltb-false}
-use Rattle.laws.specs.Tests.{Tested, either, or-cases, and-l, and-r}
+use borrow.Author.Tests.{eqb-true, ltb-true, leb-true, ltb-false}
+use Rattle.laws.specs.Tests.{Tested, either, or-cases, and-l, and-r, allBelow, below}
 
 -- ---- bits
 
@@ -66,19 +66,6 @@ bit-shl-low w i k =
 
 unfoldable pub stage : ℕ → ℕ → ℕ → ℕ
 stage m s w = bitOr (bitAnd w m * 2 ^ s) (bitAnd (w / 2 ^ s) m)
-
-unfoldable pub allBelow : ℕ → (ℕ → Bool) → Bool
-allBelow zero f = true
-allBelow (suc n) f = f n && allBelow n f
-
-pub below : (n : ℕ) (f : ℕ → Bool) → allBelow n f ≡ true → (i : ℕ) → i < n → f i ≡ true
-unfolding allBelow
-below zero f e i h = absurd (omega arith)
-below (suc n) f e i h = go (either (eqb i n)) (below n f (and-r (f n) (allBelow n f) e) i)
-  where
-    go : Tested (eqb i n) → (i < n → f i ≡ true) → f i ≡ true
-    go (inl q) r = ap f (eqb-true i n q) ∙ and-l (f n) (allBelow n f) e
-    go (inr q) r = let ne = eqb-false i n q in r (omega (arith, ne))
 
 -- what a mask must be: set at i, whose partner is above it, or clear at i, whose partner is below it and set
 unfoldable pub swaps : ℕ → ℕ → ℕ → Bool

@@ -1,15 +1,16 @@
--- What the tests of Lists say of membership. Proofs use untruncated membership, `List·Memᴰ`. Assumes nothing.
+-- What tests say: those of Lists of membership, one over every number below n of each. Proofs use untruncated membership, `List·Memᴰ`.
+-- Assumes nothing.
 use mathlib.Core.Path.{_≡_, refl, sym, ap, ap₂, _∙_, subst}
 use mathlib.Core.Logic.{_⊎_, inl, inr}
 use mathlib.Core.Bool.{Bool, true, false, _&&_, _||_, cond, true≢false, false≢true, or-assoc}
 use mathlib.Core.List.{List, [], _∷_, _++_, List·Memᴰ as Mem, List·Memᴰ·head as here, List·Memᴰ·tail as there}
 use mathlib.Core.List.{List·Memᴰ·cases-cons as cases-cons, List·Memᴰ·not-nil as not-nil, List·Memᴰ·append-cases as append-cases}
 use mathlib.Core.List.{Memᴰ·append-left as mem-left, Memᴰ·append-right as mem-right, Memᴰ·cast as mem-cast}
-use Prim.Native.Nat.{ℕ, _≤_}
+use Prim.Native.Nat.{ℕ, zero, suc, _≤_, _<_}
 use native.Mathlib.Omega.{arith}
 use lib.Dec.{eqb}
 use lib.ListN.{length}
-use borrow.Author.Tests.{eqb-true, eq-eqb}
+use borrow.Author.Tests.{eqb-true, eqb-false, eq-eqb}
 use Rattle.spec.specs.Lists.{any, keep, each, same, has, byteIn}
 
 -- ---- Booleans
@@ -64,6 +65,21 @@ pub iff-eq : (a b : Bool) → (a ≡ true → b ≡ true) → (b ≡ true → a 
 iff-eq true b f g = sym (f refl)
 iff-eq false true f g = g refl
 iff-eq false false f g = refl
+
+-- ---- a test of every number below n, which computes
+
+unfoldable pub allBelow : ℕ → (ℕ → Bool) → Bool
+allBelow zero f = true
+allBelow (suc n) f = f n && allBelow n f
+
+pub below : (n : ℕ) (f : ℕ → Bool) → allBelow n f ≡ true → (i : ℕ) → i < n → f i ≡ true
+unfolding allBelow
+below zero f e i h = absurd (omega arith)
+below (suc n) f e i h = go (either (eqb i n)) (below n f (and-r (f n) (allBelow n f) e) i)
+  where
+    go : Tested (eqb i n) → (i < n → f i ≡ true) → f i ≡ true
+    go (inl q) r = ap f (eqb-true i n q) ∙ and-l (f n) (allBelow n f) e
+    go (inr q) r = let ne = eqb-false i n q in r (omega (arith, ne))
 
 -- ---- any
 

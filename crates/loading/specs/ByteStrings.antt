@@ -1,22 +1,22 @@
 -- The parts of a byte string are byte strings: lines, fields, and what a literal stands for. Assumes nothing.
-use mathlib.Core.Path.{_≡_, refl, sym, ap, _∙_, subst}
+use mathlib.Core.Path.{_≡_, refl, subst}
 use mathlib.Core.Bool.{Bool, true, false, not, _&&_, _||_, cond}
 use mathlib.Core.Option.{Option, none, some, bind}
 use mathlib.Core.List.{List, [], _∷_, _++_}
-use Prim.Native.Nat.{ℕ, zero, suc, _+_, _-_, _*_, _/_, _%_, _^_, _≤_, _<_}
+use Prim.Native.Nat.{ℕ, zero, suc, _+_, _-_, _/_, _%_, _<_}
 use native.Mathlib.Omega.{arith}
-use native.Mathlib.Nat.{mul-le-mul-right, mul-assoc, pow-succ'}
 use lib.Dec.{eqb, leb, ltb}
 use lib.ListN.{length, take, drop, getD}
 use borrow.Author.Tests.{leb-true, ltb-true}
 use Rattle.spec.specs.Lists.{all, Bytes}
 use Rattle.spec.specs.Check.{pass, given, need}
 use Rattle.spec.specs.Utf8.{_to_, within, utf8Of, blank}
-use Rattle.spec.specs.Digits.{hexDigit, hexAfter, hexRun}
+use Rattle.spec.specs.Digits.{hexRun}
 use Rattle.spec.specs.Line.{lf, cr, lessCR, withLF, lastLine, linesAfter, lines, Fields, firstSpace, lastSpace, parted, placed, fields}
-use Rattle.spec.specs.Literal.{Piece, letters, lookUp, byteEscape, pointEscape, escaped, escape, plain, bad, piece, closed}
-use Rattle.spec.specs.Literal.{pieceAt, inside, quoted, readWith, read, literal}
+use Rattle.spec.specs.Literal.{Piece, letters, lookUp, byteEscape, pointEscape, escaped, escape, plain, bad, piece, closed, pieceAt}
+use Rattle.spec.specs.Literal.{inside, quoted, readWith, read, literal}
 use Rattle.laws.specs.Tests.{and-l, and-r}
+use Rattle.laws.specs.LiteralLaws.{hex-run-lt}
 use Rattle.loading.specs.Checks.{need-pass, given-pass}
 
 -- every list of ls is a byte string
@@ -107,36 +107,6 @@ unfolding bind
 bind-some none k b e = absurd (none≢some b e)
 bind-some (some a) k b e = (a, refl, e)
 
--- a number within a range lies between its ends
-between : (low high b : ℕ) → within (low to high) b ≡ true → (low ≤ b) × (b ≤ high)
-between low high b e = (leb-true low b (and-l (leb low b) (leb b high) e), leb-true b high (and-r (leb low b) (leb b high) e))
-
-digit-16 : (b d : ℕ) → hexDigit b ≡ some d → d < 16
-unfolding hexDigit
-digit-16 b d e =
-    pick (within (0x30 to 0x39) b) (b - 0x30) _ (λ t. let h = between 0x30 0x39 b t in omega arith) (
-    pick (within (0x61 to 0x66) b) (b - 0x61 + 10) _ (λ t. let h = between 0x61 0x66 b t in omega arith) (
-    pick (within (0x41 to 0x46) b) (b - 0x41 + 10) none (λ t. let h = between 0x41 0x46 b t in omega arith) (λ e. absurd (none≢some d e))))
-    e
-  where
-    pick : (c : Bool) (v : ℕ) (o : Option ℕ) → (c ≡ true → v < 16) → (o ≡ some d → d < 16) → cond c (some v) o ≡ some d → d < 16
-    pick true v o a k e = let z : v ≡ d = cc in let w = a refl in omega arith
-    pick false v o a k e = k e
-
--- the number of digits so far, times 16 for each that follows, bounds the number read
-hex-bound : (n v w : ℕ) (s : List ℕ) → hexAfter v n s ≡ some w → w < (v + 1) * 16 ^ n
-unfolding hexAfter
-hex-bound zero v w s e = let z : v ≡ w = cc in omega arith
-hex-bound (suc n) v w [] e = absurd (none≢some w e)
-hex-bound (suc n) v w (b ∷ s) e =
-    let (d, p, q) = bind-some (hexDigit b) (λ d. hexAfter (v * 16 + d) n s) w e in
-    let h = digit-16 b d p in
-    let k = hex-bound n (v * 16 + d) w s q in
-    let m : (v * 16 + d + 1) * 16 ^ n ≤ (v + 1) * 16 * 16 ^ n = mul-le-mul-right (16 ^ n) (omega arith) in
-    let r : (v + 1) * 16 * 16 ^ n ≡ (v + 1) * 16 ^ (suc n) = mul-assoc (v + 1) 16 (16 ^ n)
-    ∙ ap (λ (x : ℕ). (v + 1) * x) (sym (pow-succ' 16 n)) in
-    omega arith
-
 escape-of : (n : ℕ) (o : Option (List ℕ)) (p : Piece) → ((bs : List ℕ) → o ≡ some bs → Bytes bs) → escaped n o ≡ some p → Bytes (p .bytes)
 escape-of n none p h e = absurd (none≢some p e)
 escape-of n (some bs) p h e = let z : record { bytes = bs; more = n } ≡ p = cc in subst (λ (q : Piece). Bytes (q .bytes)) z (h bs refl)
@@ -159,7 +129,7 @@ pieces-bytes inB (c ∷ s) p e = x-first (eqb c 0x78) (eqb c 0x75) e
     two : (bs : List ℕ) → bind (hexRun 2 s) (λ v. some (cond inB (v ∷ []) (utf8Of v))) ≡ some bs → Bytes bs
     two bs e =
         let (v, q, r) = bind-some (hexRun 2 s) (λ v. some (cond inB (v ∷ []) (utf8Of v))) bs e in
-        let h = hex-bound 2 0 v s q in
+        let h = hex-run-lt 2 v s q in
         let z : cond inB (v ∷ []) (utf8Of v) ≡ bs = cc in
         subst Bytes z (bytes-cond inB (v ∷ []) (utf8Of v) (λ t. (omega arith, tt)) (λ t. utf8-bytes v))
 

@@ -1,18 +1,22 @@
 -- Numbers in digits, read from a place of a list: one law for each way a turn of a reader can go. Assumes nothing.
 use mathlib.Core.Path.{_≡_, refl, ap, ap₂, _∙_}
 use mathlib.Core.Bool.{Bool, true, false, _&&_, cond, false≢true}
-use mathlib.Core.Option.{Option, none, some, bind, Option·none-ne-some, Option·some-injective}
+use mathlib.Core.Option.{Option, none, some, bind}
 use mathlib.Core.List.{List, [], _∷_}
-use Prim.Native.Nat.{ℕ, zero, suc, _+_, _*_, _-_, _^_, _≤_, _<_}
-use native.Mathlib.Nat.{add-zero, le-of-eq, le-trans, pow-suc, pow-le-pow-right}
+use Prim.Native.Nat.{ℕ, suc, _+_, _*_, _-_, _/_, _%_, _^_, _≤_, _<_}
+use native.Mathlib.Nat.{le-of-eq, le-trans, pow-le-pow-right}
 use native.Mathlib.Numerals.{add-one}
 use native.Mathlib.Omega.{arith}
 use lib.ListN.{length, take, drop, getD, length-drop, drop-of-length-le}
 use lib.Seq.{drop-cons, take-all}
-use lib.Dec.{leb}
-use borrow.Author.Tests.{le-leb, lt-leb, leb-true}
+use lib.Bits.{bitAnd, and-le-l}
+use lib.Dec.{eqb, leb}
+use mir.Syntax.{w8}
+use mir.Val.{Fits}
+use borrow.Author.Tests.{le-leb, lt-leb, leb-true, eqb-true}
 use Rattle.spec.specs.Utf8.{_to_, within}
 use Rattle.spec.specs.Digits.{digit, digitsAfter, atMost, digits, hexDigit, hexAfter}
+use Rattle.laws.specs.Tests.{allBelow, below}
 
 -- ── Parts ────────────────────────────────────────────────────────────
 
@@ -35,10 +39,6 @@ module _ (low high : ℕ) {b : ℕ} where
       no-second : (t : Bool) → (t && false) ≡ false
       no-second true = refl
       no-second false = refl
-
-pub and-right : (a : Bool) {b : Bool} → (a && b) ≡ true → b ≡ true
-and-right true e = e
-and-right false e = absurd (false≢true e)
 
 -- ── Decimal ──────────────────────────────────────────────────────────
 
@@ -106,59 +106,64 @@ too-much limit v (b ∷ s) h = go (digit b) (λ (d : ℕ). too-much limit (v * 1
 
 -- ── Hexadecimal ──────────────────────────────────────────────────────
 
-pub hex-decimal : {b d : ℕ} → 0x30 ≤ b → b ≤ 0x39 → d ≡ b - 0x30 → hexDigit b ≡ some d
-unfolding hexDigit
-hex-decimal h k e = rw (in-range 0x30 0x39 h k, e)
+-- The arithmetic of `hex_digit`, as it stands there: the value that it gives a byte, that value's code in the byte's case, what it asks
+-- of the two, and so its answer.
+abbrev hexValue : ℕ → ℕ
+hexValue b = b % 16 + 9 * (b / 64)
 
-pub hex-small : {b d : ℕ} → 0x61 ≤ b → b ≤ 0x66 → d ≡ b - 0x61 → hexDigit b ≡ some (d + 10)
-unfolding hexDigit
-hex-small {b} h k e = rw (above-range 0x30 0x39 {b = b} (omega arith), in-range 0x61 0x66 h k, e)
+abbrev hexLetter : ℕ → ℕ
+hexLetter b = hexValue b / 10
 
-pub hex-capital : {b d : ℕ} → 0x41 ≤ b → b ≤ 0x46 → d ≡ b - 0x41 → hexDigit b ≡ some (d + 10)
-unfolding hexDigit
-hex-capital {b} h k e =
-    rw (above-range 0x30 0x39 {b = b} (omega arith), below-range 0x61 0x66 {b = b} (omega arith), in-range 0x41 0x46 h k, e)
+abbrev hexCase : ℕ → ℕ
+hexCase b = bitAnd b (32 * hexLetter b)
 
--- the four gaps
-pub hex-below : {b : ℕ} → b < 0x30 → hexDigit b ≡ none
-unfolding hexDigit
-hex-below {b} h =
-    rw (below-range 0x30 0x39 h, below-range 0x61 0x66 {b = b} (omega arith), below-range 0x41 0x46 {b = b} (omega arith))
+abbrev hexCode : ℕ → ℕ
+hexCode b = 0x30 + hexValue b + 7 * hexLetter b + hexCase b
 
-pub hex-after-decimal : {b : ℕ} → 0x39 < b → b < 0x41 → hexDigit b ≡ none
-unfolding hexDigit
-hex-after-decimal {b} h k =
-    rw (above-range 0x30 0x39 h, below-range 0x61 0x66 {b = b} (omega arith), below-range 0x41 0x46 k)
+abbrev isSmall : ℕ → Bool
+isSmall b = leb (hexValue b) 15
 
-pub hex-after-capital : {b : ℕ} → 0x46 < b → b < 0x61 → hexDigit b ≡ none
-unfolding hexDigit
-hex-after-capital {b} h k =
-    rw (above-range 0x30 0x39 {b = b} (omega arith), below-range 0x61 0x66 k, above-range 0x41 0x46 h)
+abbrev isAgain : ℕ → Bool
+isAgain b = eqb b (hexCode b)
 
-pub hex-above : {b : ℕ} → 0x66 < b → hexDigit b ≡ none
-unfolding hexDigit
-hex-above {b} h =
-    rw (above-range 0x30 0x39 {b = b} (omega arith), above-range 0x61 0x66 h, above-range 0x41 0x46 {b = b} (omega arith))
+abbrev byCode : ℕ → Option ℕ
+byCode b = cond (isSmall b && isAgain b) (some (hexValue b)) none
 
-pub hex-lt : (b d : ℕ) → hexDigit b ≡ some d → d < 16
-unfolding hexDigit
-hex-lt b d e = go (within (0x30 to 0x39) b) (within (0x61 to 0x66) b) (within (0x41 to 0x46) b) refl refl refl e
-  where
-    go : (x y z : Bool) → within (0x30 to 0x39) b ≡ x → within (0x61 to 0x66) b ≡ y → within (0x41 to 0x46) b ≡ z
-        → cond x (some (b - 0x30)) (cond y (some (b - 0x61 + 10)) (cond z (some (b - 0x41 + 10)) none)) ≡ some d → d < 16
-    go true y z hx hy hz e =
-        let q = Option·some-injective _ _ e in
-        let k = leb-true b 0x39 (and-right (leb 0x30 b) hx) in
-        omega arith
-    go false true z hx hy hz e =
-        let q = Option·some-injective _ _ e in
-        let k = leb-true b 0x66 (and-right (leb 0x61 b) hy) in
-        omega arith
-    go false false true hx hy hz e =
-        let q = Option·some-injective _ _ e in
-        let k = leb-true b 0x46 (and-right (leb 0x41 b) hz) in
-        omega arith
-    go false false false hx hy hz e = absurd (Option·none-ne-some d e)
+-- the same number, or none on both sides
+abbrev alike : Option ℕ → Option ℕ → Bool
+alike none none = true
+alike none (some w) = false
+alike (some v) none = false
+alike (some v) (some w) = eqb v w
+
+alike-eq : (o p : Option ℕ) → alike o p ≡ true → o ≡ p
+alike-eq none none e = refl
+alike-eq none (some w) e = absurd (false≢true e)
+alike-eq (some v) none e = absurd (false≢true e)
+alike-eq (some v) (some w) e = ap some (eqb-true v w e)
+
+-- it gives each of the 256 bytes what the definition gives, by computation
+all-alike : allBelow 256 (λ b. alike (hexDigit b) (byCode b)) ≡ true
+unfolding allBelow hexDigit
+all-alike = refl
+
+by-code : (b : ℕ) → b < 256 → hexDigit b ≡ byCode b
+by-code b h = alike-eq (hexDigit b) (byCode b) (below 256 (λ b. alike (hexDigit b) (byCode b)) all-alike b h)
+
+-- the code is a byte
+pub hex-code-fits : (b : ℕ) → isSmall b ≡ true → Fits w8 (hexCode b)
+hex-code-fits b h = let e = leb-true (hexValue b) _ h in let k : hexCase b ≤ b = and-le-l b _ in omega arith
+
+-- one law for each way that its tests can come out
+module _ (b : ℕ) (byte : b < 256) where
+  pub hex-large : isSmall b ≡ false → hexDigit b ≡ none
+  hex-large h = by-code b byte ∙ rw h
+
+  pub hex-other : isSmall b ≡ true → isAgain b ≡ false → hexDigit b ≡ none
+  hex-other h k = by-code b byte ∙ rw (h, k)
+
+  pub hex-again : isSmall b ≡ true → isAgain b ≡ true → {v : ℕ} → v ≡ hexValue b → hexDigit b ≡ some v
+  hex-again h k e = by-code b byte ∙ rw (h, k, e)
 
 -- a run read up to the place i, with the value v so far
 module _ (s : List ℕ) (count i v : ℕ) (more : i < count) where
@@ -182,20 +187,6 @@ pub hex-ends : (s : List ℕ) (count i v : ℕ) → count ≤ i → hexAfter v (
 unfolding hexAfter
 hex-ends s count i v h = let e : count - i ≡ 0 = omega arith in rw e
 
--- the value of a run stays below 16 to the power of its digits
-pub hex-grows : (i v d : ℕ) → v < 16 ^ i → d < 16 → v * 16 + d < 16 ^ (i + 1)
-hex-grows i v d h k = rw (add-one, pow-suc) (omega arith)
-
+-- eight digits fit 32 bits
 pub hex-fits : (i v : ℕ) → i ≤ 8 → v < 16 ^ i → v < 4294967296
 hex-fits i v h k = le-trans k (pow-le-pow-right (omega arith) h)
-
-pub hexAfter-lt : (n i v w : ℕ) (s : List ℕ) → v < 16 ^ i → hexAfter v n s ≡ some w → w < 16 ^ (i + n)
-unfolding hexAfter
-hexAfter-lt zero i v w s h e = rw (add-zero, ← Option·some-injective _ _ e) h
-hexAfter-lt (suc n) i v w [] h e = absurd (Option·none-ne-some w e)
-hexAfter-lt (suc n) i v w (b ∷ s) h e = go (hexDigit b) refl e (λ d l. hexAfter-lt n (i + 1) (v * 16 + d) w s (hex-grows i v d h l))
-  where
-    go : (o : Option ℕ) → hexDigit b ≡ o → bind o (λ d. hexAfter (v * 16 + d) n s) ≡ some w
-        → ((d : ℕ) → d < 16 → hexAfter (v * 16 + d) n s ≡ some w → w < 16 ^ (i + 1 + n)) → w < 16 ^ (i + suc n)
-    go none q e f = absurd (Option·none-ne-some w e)
-    go (some d) q e f = let z : i + 1 + n ≡ i + suc n = omega arith in rw (← z) (f d (hex-lt b d q) e)

@@ -41,16 +41,22 @@ pub fn digits(text: &[u8], limit: u64) -> Number
     Number::Value(value)
 }
 
-// The value of one hexadecimal digit.
+// The value of one hexadecimal digit, by arithmetic on its code: the low four bits, and 9 more for a letter, whose code has a 64 in it.
+// The byte is a digit if this value is at most 15 and its code is the byte again. The code of a letter is 7 past where the decimal digits
+// would have gone on, and 32 further in lower case, a bit taken from the byte.
 pub fn hex_digit(b: u8) -> Number
     ensures { λ r. ⌜ numberOf r ≡ hexDigit b ⌝ }
 {
-    match b {
-        b'0'..=b'9' => Number::Value(cells::u8_to_u64(b - b'0')),
-        b'a'..=b'f' => Number::Value(cells::u8_to_u64(b - b'a') + 10),
-        b'A'..=b'F' => Number::Value(cells::u8_to_u64(b - b'A') + 10),
-        _ => Number::Bad,
+    let value = b % 16 + 9 * (b / 64);
+    if value > 15 {
+        return Number::Bad;
     }
+    let letter = value / 10;
+    let code = b'0' + value + 7 * letter + (b & 32 * letter);
+    if b != code {
+        return Number::Bad;
+    }
+    Number::Value(cells::u8_to_u64(value))
 }
 
 // The value of `count` hexadecimal digits, at most eight, at the start of `text`.

@@ -1,9 +1,8 @@
 -- `escapes::byte_escape` meets its contract. Assumes nothing.
 use mathlib.Core.Path.{sym, ap, _∙_}
 use native.Mathlib.Omega.{arith}
-use lib.Dec.{lit<}
 use Rattle.numbers.specs.Answers.{numberOf}
-use Rattle.numbers.proofs.Numbers.{hexAfter-lt}
+use Rattle.laws.specs.LiteralLaws.{hex-run-lt}
 use Rattle.escapes.proofs.Escapes.{byte-none, byte-some}
 use borrow.Author.Needs.{needs}
 use Rattle.escapes.proofs.byte_escape.Statement.{statement}
@@ -25,14 +24,14 @@ cast-t7 : tie.Need-cast-t7
 cast-t7 c =
     let hex-run = c .before .before .before .before .hex-run in
     let v = c .before .before .v in
-    let h = hexAfter-lt 2 0 0 _ _ (lit< tt) (sym (hex-run .ensures) ∙ ap numberOf (v .given .1)) in
+    let h = hex-run-lt 2 _ _ (sym (hex-run .ensures) ∙ ap numberOf (v .given .1)) in
     omega arith
 
 cast-t8 : tie.Need-cast-t8
 cast-t8 c =
     let hex-run = c .before .before .before .before .hex-run in
     let v = c .before .before .v in
-    let h = hexAfter-lt 2 0 0 _ _ (lit< tt) (sym (hex-run .ensures) ∙ ap numberOf (v .given .1)) in
+    let h = hex-run-lt 2 _ _ (sym (hex-run .ensures) ∙ ap numberOf (v .given .1)) in
     omega arith
 
 returns-2 : tie.Need-returns-2

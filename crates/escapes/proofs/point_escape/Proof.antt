@@ -2,9 +2,8 @@
 use mathlib.Core.Path.{sym, ap, _∙_}
 use mathlib.Core.Logic.{inl, inr, ⊎-elim}
 use native.Mathlib.Omega.{arith}
-use lib.Dec.{lit<}
 use Rattle.numbers.specs.Answers.{numberOf}
-use Rattle.numbers.proofs.Numbers.{hexAfter-lt}
+use Rattle.laws.specs.LiteralLaws.{hex-run-lt}
 use Rattle.escapes.proofs.Escapes.{point-none, point-surrogate, point-some, point-in-bytes}
 use borrow.Author.Needs.{needs}
 use Rattle.escapes.proofs.point_escape.Statement.{statement}
@@ -29,7 +28,7 @@ cast-t8 : tie.Need-cast-t8
 cast-t8 c =
     let hex-run = c .before .before .before .before .hex-run in
     let v = c .before .before .v in
-    let h = hexAfter-lt 4 0 0 _ _ (lit< tt) (sym (hex-run .ensures) ∙ ap numberOf (v .given .1)) in
+    let h = hex-run-lt 4 _ _ (sym (hex-run .ensures) ∙ ap numberOf (v .given .1)) in
     omega arith
 
 returns-3 : tie.Need-returns-3

@@ -8,7 +8,8 @@ use borrow.Author.Needs.{needs}
 use lib.ListN.{drop}
 use Rattle.spec.specs.Digits.{hexRun, hexAfter}
 use Rattle.numbers.specs.Answers.{numberOf}
-use Rattle.numbers.proofs.Numbers.{hex-lt, hex-goes, hex-stops, hex-short, hex-ends, hex-grows, hex-fits}
+use Rattle.laws.specs.LiteralLaws.{hex-lt, hex-grows}
+use Rattle.numbers.proofs.Numbers.{hex-goes, hex-stops, hex-short, hex-ends, hex-fits}
 use Rattle.numbers.proofs.hex_run.Statement.{statement}
 use Rattle.numbers.proofs.hex_run.Tie as tie
 
