@@ -9,11 +9,9 @@ use native.Mathlib.Numerals.{add-one}
 use native.Mathlib.Omega.{arith}
 use lib.ListN.{length, take, drop, getD, length-drop, drop-of-length-le}
 use lib.Seq.{drop-cons, take-all}
-use lib.Bits.{bitAnd, and-le-l}
+use lib.Bits.{bitOr}
 use lib.Dec.{eqb, leb}
-use mir.Syntax.{w8}
-use mir.Val.{Fits}
-use borrow.Author.Tests.{le-leb, lt-leb, leb-true, eqb-true}
+use borrow.Author.Tests.{le-leb, lt-leb, eqb-true}
 use Rattle.spec.specs.Utf8.{_to_, within}
 use Rattle.spec.specs.Digits.{digit, digitsAfter, atMost, digits, hexDigit, hexAfter}
 use Rattle.laws.specs.Tests.{allBelow, below}
@@ -106,28 +104,19 @@ too-much limit v (b ∷ s) h = go (digit b) (λ (d : ℕ). too-much limit (v * 1
 
 -- ── Hexadecimal ──────────────────────────────────────────────────────
 
--- The arithmetic of `hex_digit`, as it stands there: the value that it gives a byte, that value's code in the byte's case, what it asks
--- of the two, and so its answer.
+-- The arithmetic of `hex_digit`, as it stands there: the value that it gives a byte, that value's code, whether the byte is this code, and
+-- so its answer.
 abbrev hexValue : ℕ → ℕ
-hexValue b = b % 16 + 9 * (b / 64)
-
-abbrev hexLetter : ℕ → ℕ
-hexLetter b = hexValue b / 10
-
-abbrev hexCase : ℕ → ℕ
-hexCase b = bitAnd b (32 * hexLetter b)
+hexValue b = (b % 16 + 9 * (b / 64)) % 16
 
 abbrev hexCode : ℕ → ℕ
-hexCode b = 0x30 + hexValue b + 7 * hexLetter b + hexCase b
+hexCode b = 0x30 + hexValue b + 39 * (hexValue b / 10)
 
-abbrev isSmall : ℕ → Bool
-isSmall b = leb (hexValue b) 15
-
-abbrev isAgain : ℕ → Bool
-isAgain b = eqb b (hexCode b)
+abbrev isCode : ℕ → Bool
+isCode b = eqb (bitOr b (32 * (b / 64))) (hexCode b)
 
 abbrev byCode : ℕ → Option ℕ
-byCode b = cond (isSmall b && isAgain b) (some (hexValue b)) none
+byCode b = cond (isCode b) (some (hexValue b)) none
 
 -- the same number, or none on both sides
 abbrev alike : Option ℕ → Option ℕ → Bool
@@ -150,20 +139,13 @@ all-alike = refl
 by-code : (b : ℕ) → b < 256 → hexDigit b ≡ byCode b
 by-code b h = alike-eq (hexDigit b) (byCode b) (below 256 (λ b. alike (hexDigit b) (byCode b)) all-alike b h)
 
--- the code is a byte
-pub hex-code-fits : (b : ℕ) → isSmall b ≡ true → Fits w8 (hexCode b)
-hex-code-fits b h = let e = leb-true (hexValue b) _ h in let k : hexCase b ≤ b = and-le-l b _ in omega arith
-
--- one law for each way that its tests can come out
+-- one law for each way that its test can come out
 module _ (b : ℕ) (byte : b < 256) where
-  pub hex-large : isSmall b ≡ false → hexDigit b ≡ none
-  hex-large h = by-code b byte ∙ rw h
+  pub hex-none : isCode b ≡ false → hexDigit b ≡ none
+  hex-none h = by-code b byte ∙ rw h
 
-  pub hex-other : isSmall b ≡ true → isAgain b ≡ false → hexDigit b ≡ none
-  hex-other h k = by-code b byte ∙ rw (h, k)
-
-  pub hex-again : isSmall b ≡ true → isAgain b ≡ true → {v : ℕ} → v ≡ hexValue b → hexDigit b ≡ some v
-  hex-again h k e = by-code b byte ∙ rw (h, k, e)
+  pub hex-some : isCode b ≡ true → {v : ℕ} → v ≡ hexValue b → hexDigit b ≡ some v
+  hex-some h e = by-code b byte ∙ rw (h, e)
 
 -- a run read up to the place i, with the value v so far
 module _ (s : List ℕ) (count i v : ℕ) (more : i < count) where

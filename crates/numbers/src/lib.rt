@@ -42,18 +42,14 @@ pub fn digits(text: &[u8], limit: u64) -> Number
 }
 
 // The value of one hexadecimal digit, by arithmetic on its code: the low four bits, and 9 more for a letter, whose code has a 64 in it.
-// The byte is a digit if this value is at most 15 and its code is the byte again. The code of a letter is 7 past where the decimal digits
-// would have gone on, and 32 further in lower case, a bit taken from the byte.
+// The byte is a digit if it is the code of this value again, a letter taken in lower case, which is the bit 32.
 pub fn hex_digit(b: u8) -> Number
     ensures { λ r. ⌜ numberOf r ≡ hexDigit b ⌝ }
 {
-    let value = b % 16 + 9 * (b / 64);
-    if value > 15 {
-        return Number::Bad;
-    }
-    let letter = value / 10;
-    let code = b'0' + value + 7 * letter + (b & 32 * letter);
-    if b != code {
+    let letter = b / 64;
+    let value = (b % 16 + 9 * letter) % 16;
+    let code = b'0' + value + 39 * (value / 10);
+    if b | 32 * letter != code {
         return Number::Bad;
     }
     Number::Value(cells::u8_to_u64(value))

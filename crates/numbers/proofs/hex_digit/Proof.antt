@@ -2,8 +2,8 @@
 use mathlib.Core.Path.{sym}
 use native.Mathlib.Omega.{arith}
 use borrow.Author.Needs.{needs}
-use borrow.Author.Tests.{le-leb, lt-leb, eq-eqb, ne-eqb}
-use Rattle.numbers.proofs.Numbers.{hex-large, hex-other, hex-again, hex-code-fits}
+use borrow.Author.Tests.{eq-eqb, ne-eqb}
+use Rattle.numbers.proofs.Numbers.{hex-none, hex-some}
 use Rattle.numbers.proofs.hex_digit.Statement.{statement}
 use Rattle.numbers.proofs.hex_digit.Tie as tie
 
@@ -12,9 +12,6 @@ mul-value c = search needs
 
 add-value : tie.Need-add-value
 add-value c = search needs
-
-returns : tie.Need-returns
-returns c = sym (hex-large _ (omega arith) (lt-leb _ _ (c .if1 .taken)))
 
 add-code : tie.Need-add-code
 add-code c = search needs
@@ -25,21 +22,17 @@ mul-code c = search needs
 add-code-2 : tie.Need-add-code-2
 add-code-2 c = search needs
 
-mul-code-2 : tie.Need-mul-code-2
-mul-code-2 c = search needs
+mul-if1 : tie.Need-mul-if1
+mul-if1 c = search needs
 
-add-code-3 : tie.Need-add-code-3
-add-code-3 c = hex-code-fits _ (le-leb _ _ (c .if1 .left))
-
-returns-2 : tie.Need-returns-2
-returns-2 c = sym (hex-other _ (omega arith) (le-leb _ _ (c .before .if1 .left)) (ne-eqb _ _ (c .if2 .taken)))
+returns : tie.Need-returns
+returns c = sym (hex-none _ (omega arith) (ne-eqb _ _ (c .if1 .taken)))
 
 u8-to-u64-requires : tie.Need-u8-to-u64-requires
 u8-to-u64-requires c κs = search needs
 
-returns-3 : tie.Need-returns-3
-returns-3 c =
-    sym (hex-again _ (omega arith) (le-leb _ _ (c .before .before .if1 .left)) (eq-eqb _ _ (c .before .if2 .left)) (c .u8-to-u64 .ensures))
+returns-2 : tie.Need-returns-2
+returns-2 c = sym (hex-some _ (omega arith) (eq-eqb _ _ (c .before .if1 .left)) (c .u8-to-u64 .ensures))
 
 pub hex-digit-spec : {M : Type 1} → statement M
 hex-digit-spec =
@@ -47,12 +40,10 @@ hex-digit-spec =
     (tie.spec
     mul-value
     add-value
-    returns
     add-code
     mul-code
     add-code-2
-    mul-code-2
-    add-code-3
-    returns-2
+    mul-if1
+    returns
     u8-to-u64-requires
-    returns-3)
+    returns-2)
