@@ -42,7 +42,8 @@ pub fn digits(text: &[u8], limit: u64) -> Number
 }
 
 // The value of one hexadecimal digit, by arithmetic on its code: the low four bits, and 9 more for a letter, whose code has a 64 in it.
-// The byte is a digit if it is the code of this value again, a letter taken in lower case, which is the bit 32.
+// The byte is a digit if it is the code of this value again, a letter taken in lower case, which is the bit 32. From 10 on the codes are
+// 39 further than `0` and the value: `a` to `f`.
 pub fn hex_digit(b: u8) -> Number
     ensures { λ r. ⌜ numberOf r ≡ hexDigit b ⌝ }
 {
