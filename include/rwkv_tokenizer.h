@@ -6,7 +6,9 @@
  *
  * Every call that is given vocabulary memory:
  *    1  a part of the vocabulary memory is too short
- * Loading a text; 2 carries the offset of the first bad byte, 3 to 18 a line counted from 1, 20 a byte:
+ * Loading a text; 34 comes before 1 and carries nothing; 2 carries the offset of the first bad byte, 3 to 18 a line counted
+ * from 1, 20 a byte:
+ *   34  the edition is neither 1 nor 2
  *    2  the text is not UTF-8; its first ill-formed sequence starts at the offset, and all before it is UTF-8
  *    3  the line is blank
  *    4  no space
@@ -38,7 +40,7 @@
  *   28  too few cells for the bytes
  *   29  the bytes are not UTF-8
  *
- * After 1 and 2, 24 to 26 and a repeated 22 nothing has changed but the report. After 3 to 21 the vocabulary memory is emptied:
+ * After 1 and 2, 24 to 26, 34 and a repeated 22 nothing has changed but the report. After 3 to 21 the vocabulary memory is emptied:
  * single all -1, the rest 0. With a new 22, 23, 27, 28 and 29 the ids or bytes made so far stand from the output's start, their
  * number in the report, and the other cells are as they were. But rwkv_decode_lossy writes nothing with 27 and 28, and the index
  * of its 28 is the number of ids. A stream that 22 has stopped gives the same offset and byte again at each later call, with no
@@ -73,12 +75,14 @@ typedef struct {
     const int32_t *single, size_t single_len, const uint32_t *offsets, size_t offsets_len, const uint8_t *blob,           \
         size_t blob_len, const uint64_t *roots, size_t roots_len, const uint64_t *table, size_t table_len
 
-/* Loads a vocabulary text into the vocabulary memory; nodes and marks are work memory.
+/* Loads a vocabulary text into the vocabulary memory; nodes and marks are work memory. The edition says which escapes its
+ * literals have: in 1, n t r 0 \ ' " x u; in 2 also a b f v, one to three octal digits (0 among them), and U with eight hexadecimal
+ * digits. A caller that was built for the call without `edition` must be built anew: a linker does not see the difference.
  * Report: place kind (0 none, 1 line, 2 offset, 3 byte), place, tokens, nodes, blob bytes, table words. */
-uint32_t rwkv_load(const uint8_t *text, size_t text_len, bool partial, int32_t *single, size_t single_len, uint32_t *offsets,
-                   size_t offsets_len, uint8_t *blob, size_t blob_len, uint64_t *roots, size_t roots_len, uint64_t *table,
-                   size_t table_len, rwkv_node *nodes, size_t nodes_len, uint64_t *used, size_t used_len, uint64_t *used_bases,
-                   size_t used_bases_len, uint64_t report[6]);
+uint32_t rwkv_load(const uint8_t *text, size_t text_len, uint32_t edition, bool partial, int32_t *single, size_t single_len,
+                   uint32_t *offsets, size_t offsets_len, uint8_t *blob, size_t blob_len, uint64_t *roots, size_t roots_len,
+                   uint64_t *table, size_t table_len, rwkv_node *nodes, size_t nodes_len, uint64_t *used, size_t used_len,
+                   uint64_t *used_bases, size_t used_bases_len, uint64_t report[6]);
 
 /* Encodes src. Report: count, offset, byte. */
 uint32_t rwkv_encode(RWKV_MEMORY, const uint8_t *src, size_t src_len, uint32_t *out, size_t out_len, uint64_t report[3]);

@@ -1,10 +1,12 @@
 #!/usr/bin/env python3
-"""Writes `stdin`, the cases, and `stdout`, the answers that document 01 asks for.
+"""Writes `stdin`, the cases, and `stdout`, the answers that documents 01 and 02 ask for.
 
-Nothing here is taken from the code. What a literal stands for is what Python's own reader makes of it, where document 01 takes
-the literal at all; which ones it takes is one pattern. `\\0` is the one place where both take a literal and differ: it is given to
-Python as `\\x00`. Lines, fields and numbers are split and read by Python's means. What is UTF-8, where a text is bad, and lossy text,
-is what Python's own decoder says.
+Nothing here is taken from the code. What a literal stands for is what Python's own reader makes of it, where the documents take
+the literal at all: a pattern for each edition has what may follow a backslash. That of edition 1 has the digits too, and edition 2
+leaves them to Python, which also knows which code points there are. Edition 1's `\\0` is the one place where both take a literal and
+differ: it is given to Python as `\\x00`. Edition 2 takes no other byte after a backslash, neither `N` nor a line's end, no surrogate, and
+in `b` no octal above 377, all of which Python takes. Lines, fields and numbers are split and read by Python's means. What is UTF-8,
+where a text is bad, and lossy text, is what Python's own decoder says.
 """
 import ast
 import os
@@ -12,23 +14,35 @@ import re
 
 WHITE = "\u0009-\u000d\u0020\u0085\u00a0\u1680\u2000-\u200a\u2028\u2029\u202f\u205f\u3000"
 
+# By edition, what may follow a backslash in any literal, and what else in a string. Of an octal above 377 in `b` Python takes the low byte.
+ESCAPES = {
+    1: (rb"[ntr\\'\"0]|x[0-9a-fA-F]{2}", rb"|u(?![dD][89a-fA-F])[0-9a-fA-F]{4}"),
+    2: (rb"[ntr\\'\"abfvx]|(?![4-7][0-7]{2})[0-7]", rb"|[uU4-7]"),
+}
 
-def literal(text):
-    """The bytes of a literal, or None."""
+
+def literal(text, edition):
+    """The bytes of a literal of an edition, or None."""
     prefix, quoted = (b"b", text[1:]) if text[:1] == b"b" else (b"", text)
     if len(quoted) < 2 or quoted[:1] not in (b"'", b'"') or quoted[:1] != quoted[-1:]:
         return None
     quote, inner = quoted[:1], quoted[1:-1]
     plain = rb"[^\\" + quote + (rb"\x80-\xff]" if prefix else rb"]")
-    point = rb"" if prefix else rb"|u(?![dD][89a-fA-F])[0-9a-fA-F]{4}"
-    if not re.fullmatch(rb"(?s:" + plain + rb"|\\(?:[ntr\\'\"0]|x[0-9a-fA-F]{2}" + point + rb"))*", inner):
+    either, string = ESCAPES[edition]
+    if not re.fullmatch(rb"(?s:" + plain + rb"|\\(?:" + either + (rb"" if prefix else string) + rb"))*", inner):
         return None
     # raw CR, LF and NUL stand for themselves here, which Python's reader takes only escaped
     for raw, escape in ((b"\r", rb"\r"), (b"\n", rb"\n"), (b"\0", rb"\x00")):
         inner = inner.replace(raw, escape)
-    inner = re.sub(rb"(?s)\\(.)", lambda m: rb"\x00" if m[1] == b"0" else m[0], inner)
-    value = ast.literal_eval((prefix + quote + inner + quote).decode("utf-8"))
-    return value if prefix else value.encode("utf-8")
+    if edition == 1:
+        inner = re.sub(rb"(?s)\\(.)", lambda m: rb"\x00" if m[1] == b"0" else m[0], inner)
+    try:
+        value = ast.literal_eval((prefix + quote + inner + quote).decode("utf-8"))
+        return value if prefix else value.encode("utf-8")
+    except (SyntaxError, UnicodeEncodeError):
+        if edition == 1:
+            raise
+        return None  # too few digits, above 10FFFF; a surrogate
 
 
 def lines(text):
@@ -92,8 +106,10 @@ def runs(start):
     return "".join("%s%d" % (shown([bytes(ends)]), n) for ends, n in found)
 
 
-def before_lines(short, text):
-    """What a load refuses before any line: 1, or 2 at the first bad byte (document 02, W-206)."""
+def before_lines(short, edition, text):
+    """What a load refuses before any line: 34 (document 02, W-205), 1, or 2 at the first bad byte (W-206)."""
+    if edition not in (1, 2):
+        return "refused 34"
     if short:
         return "refused 1"
     return "refused 2 at %d" % good(text) if good(text) < len(text) else "read on"
@@ -135,11 +151,11 @@ def answer(kind, case):
     if kind == "S":
         return runs(case)
     if kind == "B":
-        return before_lines(case[0], case[1:])
+        return before_lines(case[0], case[1], case[2:])
     if kind in "DXY":
         return decoding(kind, case)
-    if kind == "L":
-        value = literal(case)
+    if kind in "LM":
+        value = literal(case, 1 if kind == "L" else 2)
         return "refused 12" if value is None else shown([value])
     if kind == "F":
         value = fields(case)
@@ -151,6 +167,49 @@ def answer(kind, case):
         return "none" if value is None else str(value)
     value = number(case, 2**32 - 1 if kind == "I" else 2**64 - 1)
     return "refused %d" % (6 if kind == "I" else 11) if value is None else str(value)
+
+
+def joined(parts, most):
+    """The parts one after the other, as many in each as go into so many bytes."""
+    made = b""
+    for part in parts:
+        if len(made + part) > most:
+            yield made
+            made = b""
+        made += part
+    yield made
+
+
+def literals_of_edition_2():
+    # document 02's examples, and what stays bad
+    for text in (rb"'\01'", rb"'\a\b\f\v'", rb"b'\a\b\f\v'", rb"'\0012'", rb"'\08'", rb"'\8'", rb"'\400'", rb"b'\400'", rb"'\ud800'",
+                 rb"b'\u0041'", rb"'\N{DIGIT ONE}'", b"'\\\n'", b"'\\\r\n'", b"'a\\'", b"'a''b'", rb"'\x80\u20ac'", "'é\\0€'".encode()):
+        yield "M", text
+    # every byte after a backslash; in a string, of those that no text has there, three
+    for byte in range(256):
+        yield "M", b"b'\\" + bytes([byte]) + b"'"
+        if byte < 0x80 or byte in (0x80, 0xc3, 0xff):
+            yield "M", b"'\\" + bytes([byte]) + b"'"
+    # all octals of one to three digits; those that a byte can't hold alone in `b`, every seventh
+    for digits in (1, 2, 3):
+        octals = [b"\\%0*o" % (digits, value) for value in range(8 ** digits)]
+        for inner in joined(octals, 62):
+            yield "M", b"'" + inner + b"'"
+        for inner in joined(octals[:256], 61):
+            yield "M", b"b'" + inner + b"'"
+        for octal in octals[256::7] + octals[511:]:
+            yield "M", b"b'" + octal + b"'"
+    # octals followed by what ends them: an octal digit after three, other digits, letters, an escape
+    for prefix in (b"", b"b"):
+        for after in (b"0", b"7", b"8", b"9", b"a", b"f", rb"\1", rb"\n", b"\0"):
+            yield "M", prefix + b"'" + b"".join(octal + after for octal in (rb"\1", rb"\12", rb"\123", rb"\0", rb"\00", rb"\377")) + b"'"
+    # the edges of the code points, with digits in either case; too few digits, one more, a bad one, none; and in `b`
+    for point in (0, 0x7f, 0x80, 0x7ff, 0x800, 0xd7ff, 0xd800, 0xdfff, 0xe000, 0xffff, 0x10000, 0x10ffff, 0x110000, 0xffffffff):
+        for digits in sorted({b"%08x" % point, b"%08X" % point}):
+            yield "M", b"'\\U" + digits + b"'"
+    for text in (rb"'\U0010fff'", rb"'\U0010ffff0'", rb"'\U0010FFFG'", rb"'\Ug010ffff'", rb"'\U'", rb"'\U0000d7ff\U0000e000'",
+                 rb"b'\U00000041'", rb"b'\U0010ffff'", rb"b'\U'"):
+        yield "M", text
 
 
 def cases():
@@ -187,6 +246,7 @@ def cases():
         yield "L", b"b'\\x0" + bytes([byte]) + b"'"
     for text in ("é", "€", "𝄞", "é\\n€"):
         yield "L", ("'%s'" % text).encode()
+    yield from literals_of_edition_2()
     # none, one, two, three CR, with and without LF
     for end in (b"", b"\n"):
         for crs in range(4):
@@ -236,9 +296,14 @@ def cases():
         texts += [part, b"1 'a' 1\n2 '" + part, b"1 '" + part + b"' 1\n2 '" + part + b"' 1\n", "1 'é€𝄞".encode() + part + b"\xff' 1\n"]
     texts += ["é".encode() + first + second + b"a\xff" for first in bad for second in bad]
     for text in texts:
-        yield "B", b"\0" + text
+        yield "B", b"\0\1" + text
     for text in (b"1 'a' 1\n", b"\xff", b"A\xe2\x82"):
-        yield "B", b"\1" + text
+        yield "B", b"\1\1" + text
+    # every sort of edition, with memory enough and too short, and texts that are good, bad and empty
+    for edition in (0, 1, 2, 3, 255):
+        for short in (0, 1):
+            for text in (b"1 'a' 1\n", b"A\xff", b""):
+                yield "B", bytes([short, edition]) + text
     # document 01's decodings, and number 1
     def ids(memory, cells, *numbers):
         return bytes([memory, cells]) + b"".join(i.to_bytes(3, "big") for i in numbers)
@@ -258,8 +323,10 @@ def main():
     here = os.path.dirname(os.path.abspath(__file__))
     with open(os.path.join(here, "stdin"), "w") as given, open(os.path.join(here, "stdout"), "w") as wanted:
         for kind, case in cases():
+            assert len(case) <= 64, "main.rt has room for 64 bytes of a case"
             given.write("%s %s\n" % (kind, case.hex()))
             wanted.write("%s %s: %s\n" % (kind, case.hex(), answer(kind, case)))
+        assert given.tell() < 65536, "main.rt has room for 65536 bytes of cases"
 
 
 main()

@@ -1,6 +1,7 @@
 //! Writes `stdin`, the cases, and `stdout`, the answers. Numbers, places, ids, bytes and tables are what the original Rust crate
-//! gives; where it has no refusal (1, 17, 18, 21, 23, 28) document 01's table gives the number, and 2 is the standard library's
-//! `from_utf8`. Nothing here is taken from the library. `main.rt` says what a case is. Run in `rust/`, with RWKV_ORIGINAL naming the original's folder:
+//! gives, of a text of edition 2 in edition 1's spelling; where it has no refusal (1, 17, 18, 21, 23, 28, 34) the documents give the
+//! number, and 2 is the standard library's `from_utf8`. Nothing here is taken from the library. `main.rt` says what a case is. Run in
+//! `rust/`, with RWKV_ORIGINAL naming the original's folder:
 //!
 //!     cargo run --release --bin replay_cases
 
@@ -44,7 +45,7 @@ mod asked {
     struct Asked {
         cases: String,
         answers: String,
-        numbers: [u64; 30],
+        numbers: [u64; 35],
         original: Option<Original>,
         offsets: Vec<u32>,
         blob: Vec<u8>,
@@ -61,6 +62,7 @@ mod asked {
         asked.room();
         asked.short();
         asked.vocabularies();
+        asked.editions();
         for (number, count) in asked.numbers.iter().enumerate() {
             asked.answers += &format!("number {number}: {count} cases\n");
         }
@@ -82,7 +84,7 @@ mod asked {
             Self {
                 cases: String::new(),
                 answers: String::new(),
-                numbers: [0; 30],
+                numbers: [0; 35],
                 original: None,
                 offsets: vec![0; 65_537],
                 blob: vec![0; ROOM[1]],
@@ -99,15 +101,22 @@ mod asked {
             self.numbers[number as usize] += 1;
         }
 
-        /// A load in this room, with a part of the memory a cell short if `short` is not 0.
+        /// A load of edition 1 in this room, with a part of the memory a cell short if `short` is not 0.
         fn load_in(&mut self, text: &[u8], partial: bool, room: Room, short: u8) {
+            self.load_as(1, text, text, partial, room, short);
+        }
+
+        /// A load of a text of this edition, which the original reads in the spelling `known`.
+        fn load_as(&mut self, edition: u8, text: &[u8], known: &[u8], partial: bool, room: Room, short: u8) {
             let [nodes, blob, blocks, marks] = room;
-            let (number, report, loaded) = match std::str::from_utf8(text) {
+            let (number, report, loaded) = match std::str::from_utf8(known) {
+                _ if edition > 2 => (34, [0; 6], None),
                 _ if short > 0 => (1, [0; 6], None),
                 Err(error) => (2, [2, error.valid_up_to() as u64, 0, 0, 0, 0], None),
-                Ok(text) => loading(text, partial, room),
+                Ok(known) => loading(known, partial, room),
             };
-            if number != 1 && number != 2 {
+            let halts = matches!(number, 1 | 2 | 34);
+            if !halts {
                 self.leave(loaded.as_ref(), blob, blocks * 256);
             }
             let words = &self.table[..blocks * 256];
@@ -116,11 +125,11 @@ mod asked {
             let left = sum(left, self.blob[..blob].iter().map(|&byte| u64::from(byte)));
             let left = sum(left, self.roots[..roots].iter().chain(words).copied());
             let pair = |n: usize| [(n / 256) as u8, n as u8];
-            let mut case = vec![short, u8::from(partial)];
+            let mut case = vec![short, u8::from(partial) + 2 * (edition - 1)];
             case.extend([pair(nodes), pair(blob), [blocks as u8, marks as u8]].concat());
             case.extend_from_slice(text);
             self.case('L', &case, number, &report, &format!(" {left:016x}"));
-            if number != 1 && number != 2 {
+            if !halts {
                 self.original = loaded;
             }
         }
@@ -320,6 +329,41 @@ mod asked {
                     self.decode(&ids, cells);
                 }
             }
+        }
+
+        /// Document 02's edition 2, where edition 1 spells the same tokens, and 34 before all else.
+        fn editions(&mut self) {
+            let pairs = [
+                (r"1 '\01' 1", r"1 '\x01' 1"),
+                (r"1 '\0012' 2", r"1 '\x012' 2"),
+                (r"1 '\08' 2", r"1 '\x008' 2"),
+                (r"1 '\400' 2", r"1 '\u0100' 2"),
+                (r"1 b'\377' 1", r"1 b'\xff' 1"),
+                (r"1 '\a\b\f\v' 4", r"1 '\x07\x08\x0c\x0b' 4"),
+                (r"1 '\U0001f600' 4", "1 '\u{1f600}' 4"),
+                (r"1 '\x80\u20ac\n\t\r\\\'' 10", r"1 '\x80\u20ac\n\t\r\\\'' 10"),
+                (r"1 b'\400' 1", r"1 '\' 1"),
+                (r"1 '\8' 1", r"1 '\' 1"),
+                (r"1 b'\U00000041' 1", r"1 '\' 1"),
+                (r"1 '\U00110000' 1", r"1 '\' 1"),
+                (r"1 '\N{DASH}' 1", r"1 '\' 1"),
+                (r"1 '\01' 2", r"1 '\x01' 2"),
+                ("", ""),
+            ];
+            for (text, known) in pairs {
+                self.load_as(2, text.as_bytes(), known.as_bytes(), true, ROOM, 0);
+                self.encode("\u{1}\u{7}\u{100}\u{1f600}".as_bytes(), 9);
+                self.load_as(3, text.as_bytes(), known.as_bytes(), true, ROOM, 0);
+            }
+            self.load("1 'a' 1\n2 'ab' 2\n", true);
+            for edition in [3, 4, 128] {
+                for short in 0..=3 {
+                    self.load_as(edition, b"\xff", b"\xff", false, ROOM, short);
+                }
+            }
+            self.load_as(2, b"1 '\xff' 1", b"1 '\xff' 1", true, ROOM, 0);
+            self.load_as(2, b"1 'a' 1", b"1 'a' 1", false, ROOM, 3);
+            self.encode(b"aab", 9);
         }
     }
 

@@ -1,4 +1,4 @@
-//! What can go wrong, in the original's types where it has them; each but `VocabError::Io` tells the number of document 01.
+//! What can go wrong, in the original's types where it has them; each but `VocabError::Io` tells the number of document 01 or 02.
 use std::fmt;
 use std::path::PathBuf;
 
@@ -35,6 +35,7 @@ pub fn reason(number: u32) -> &'static str {
         27 => "no token has this id",
         28 => "the output for bytes is full",
         29 => "the bytes are not UTF-8",
+        34 => "the vocabulary's edition is neither 1 nor 2",
         _ => "unknown number",
     }
 }
@@ -55,7 +56,7 @@ pub enum Place {
 /// Why a vocabulary text was refused.
 #[derive(Debug, Clone, Copy, PartialEq, Eq)]
 pub struct Refusal {
-    /// Document 01's number.
+    /// The number of document 01 or 02.
     pub number: u32,
     /// Where.
     pub place: Place,

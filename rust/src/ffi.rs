@@ -4,7 +4,7 @@
 
 /// One trie node of the work memory that a load is lent. What it holds before and after is anything.
 #[repr(C)]
-#[derive(Clone, Copy, Default)]
+#[derive(Debug, Clone, Copy, Default, PartialEq, Eq)]
 pub struct Node {
     head: u32,
     tail: u32,
@@ -63,7 +63,7 @@ type DecodeCall = unsafe extern "C" fn(
 
 unsafe extern "C" {
     fn rwkv_load(
-        text: *const u8, text_len: usize, partial: bool,
+        text: *const u8, text_len: usize, edition: u32, partial: bool,
         single: *mut i32, single_len: usize, offsets: *mut u32, offsets_len: usize, blob: *mut u8, blob_len: usize,
         roots: *mut u64, roots_len: usize, table: *mut u64, table_len: usize,
         nodes: *mut Node, nodes_len: usize, used: *mut u64, used_len: usize, used_bases: *mut u64, used_bases_len: usize,
@@ -103,12 +103,12 @@ unsafe extern "C" {
 }
 
 /// `rwkv_load`: the refusal's number, and place kind, place, tokens, nodes, blob bytes and table words.
-pub fn load(text: &[u8], partial: bool, m: LoadMemory<'_>) -> (u32, [u64; 6]) {
+pub fn load(text: &[u8], edition: u32, partial: bool, m: LoadMemory<'_>) -> (u32, [u64; 6]) {
     let mut report = [0; 6];
     // SAFETY: each pointer and length is that of a slice that lives until the call returns; those written are lent to it alone.
     let number = unsafe {
         rwkv_load(
-            text.as_ptr(), text.len(), partial,
+            text.as_ptr(), text.len(), edition, partial,
             m.single.as_mut_ptr(), m.single.len(), m.offsets.as_mut_ptr(), m.offsets.len(), m.blob.as_mut_ptr(), m.blob.len(),
             m.roots.as_mut_ptr(), m.roots.len(), m.table.as_mut_ptr(), m.table.len(),
             m.nodes.as_mut_ptr(), m.nodes.len(), m.used.as_mut_ptr(), m.used.len(), m.used_bases.as_mut_ptr(), m.used_bases.len(),

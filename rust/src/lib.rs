@@ -77,7 +77,22 @@ impl RwkvTokenizer {
 
     /// Loads a text that need not be UTF-8; if it isn't, it is refused with number 2 at its first bad byte.
     pub fn from_vocab_bytes(text: &[u8], partial: bool) -> Result<Self, VocabError> {
-        let tables = Arc::new(load::load(text, partial).map_err(VocabError::Invalid)?);
+        Self::from_vocab_edition(text, 1, partial)
+    }
+
+    /// Loads a text of an edition, 1 or 2; any other is refused with number 34. The other calls that load take a text for edition 1.
+    ///
+    /// Edition 2 has more of Python's escapes: `\a`, `\b`, `\f`, `\v`, one to three octal digits, and `\U` with eight hexadecimal
+    /// digits. Of what edition 1 takes it reads one thing otherwise: `\01` is the byte 1, where edition 1 has a zero and the digit 1.
+    ///
+    /// ```
+    /// use bombrezen::RwkvTokenizer;
+    ///
+    /// let tokenizer = RwkvTokenizer::from_vocab_edition(br"1 '\01\U0001f6eb' 5", 2, true).unwrap();
+    /// assert_eq!(tokenizer.decode_utf8(&[1]).unwrap(), "\u{1}\u{1f6eb}");
+    /// ```
+    pub fn from_vocab_edition(text: &[u8], edition: u32, partial: bool) -> Result<Self, VocabError> {
+        let tables = Arc::new(load::load(text, edition, partial).map_err(VocabError::Invalid)?);
         Ok(Self { tables, partial })
     }
 

@@ -41,11 +41,11 @@ impl Lent {
     }
 }
 
-/// Loads a vocabulary text, which need not be UTF-8.
-pub fn load(text: &[u8], partial: bool) -> Result<Tables, Refusal> {
+/// Loads a vocabulary text of an edition; it need not be UTF-8.
+pub fn load(text: &[u8], edition: u32, partial: bool) -> Result<Tables, Refusal> {
     let mut lent = Lent::likely(text.len());
     loop {
-        let refusal = match load_within(text, partial, lent) {
+        let refusal = match load_within(text, edition, partial, lent) {
             Ok(tables) => return Ok(tables),
             Err(refusal) => refusal,
         };
@@ -54,7 +54,7 @@ pub fn load(text: &[u8], partial: bool) -> Result<Tables, Refusal> {
 }
 
 /// One call of the library, with that much memory.
-fn load_within(text: &[u8], partial: bool, lent: Lent) -> Result<Tables, Refusal> {
+fn load_within(text: &[u8], edition: u32, partial: bool, lent: Lent) -> Result<Tables, Refusal> {
     let mut single = vec![0; 256];
     let mut offsets = vec![0; VOCAB_SIZE + 1];
     let mut blob = vec![0; lent.blob];
@@ -70,7 +70,7 @@ fn load_within(text: &[u8], partial: bool, lent: Lent) -> Result<Tables, Refusal
         used: &mut vec![0; lent.blocks * 4],
         used_bases: &mut vec![0; lent.blocks * 4],
     };
-    let (number, [kind, place, tokens, nodes, blob_bytes, table_words]) = ffi::load(text, partial, memory);
+    let (number, [kind, place, tokens, nodes, blob_bytes, table_words]) = ffi::load(text, edition, partial, memory);
     if number != 0 {
         return Err(Refusal { number, place: place_of(kind, place) });
     }

@@ -15,6 +15,7 @@ usage: bombrezen COMMAND [OPTIONS]
 encode and decode read standard input where nothing is given.
 options:
   --vocab FILE     this vocabulary, and not the small one of radio phraseology
+  --edition N      the vocabulary's edition, 1 or 2; 1 where nothing is said
   --partial        allow a vocabulary in which bytes have no token of their own
   --show           show the text too, with | between its tokens
   --text           decode: refuse bytes that are not UTF-8
@@ -44,6 +45,7 @@ impl From<io::Error> for Failure {
 #[derive(Default)]
 struct Options {
     vocab: Option<String>,
+    edition: u32,
     partial: bool,
     show: bool,
     text: bool,
@@ -80,10 +82,11 @@ fn run(command: &str, options: &Options) -> Result<(), Failure> {
 fn options() -> Result<(String, Options), Failure> {
     let mut words = std::env::args_os().skip(1).map(OsStringExt::into_vec);
     let command = words.next().ok_or_else(|| misused("no command is given"))?;
-    let mut options = Options::default();
+    let mut options = Options { edition: 1, ..Options::default() };
     while let Some(word) = words.next() {
         match word.as_slice() {
             b"--vocab" => options.vocab = Some(lossy(&words.next().ok_or_else(|| misused("--vocab needs a file"))?)),
+            b"--edition" => options.edition = edition(words.next())?,
             b"--partial" => options.partial = true,
             b"--show" => options.show = true,
             b"--text" => options.text = true,
@@ -96,6 +99,12 @@ fn options() -> Result<(String, Options), Failure> {
     Ok((lossy(&command), options))
 }
 
+/// The number behind `--edition`. Whether there is such an edition is for the library to say.
+fn edition(word: Option<Vec<u8>>) -> Result<u32, Failure> {
+    let word = lossy(&word.ok_or_else(|| misused("--edition needs a number"))?);
+    word.parse().map_err(|_| misused(format!("--edition needs a number up to 4294967295, and {word:?} is none")))
+}
+
 fn lossy(bytes: &[u8]) -> String {
     String::from_utf8_lossy(bytes).into_owned()
 }
@@ -104,8 +113,8 @@ impl Options {
     /// The vocabulary that was named, or the small one.
     fn tokenizer(&self) -> Result<RwkvTokenizer, Failure> {
         match &self.vocab {
-            Some(path) => load(path, self.partial).map(|(tokenizer, _)| tokenizer),
-            None => RwkvTokenizer::from_vocab_str(PHRASEOLOGY).map_err(refused),
+            Some(path) => load(path, self.edition, self.partial).map(|(tokenizer, _)| tokenizer),
+            None => RwkvTokenizer::from_vocab_edition(PHRASEOLOGY.as_bytes(), self.edition, false).map_err(refused),
         }
     }
 
@@ -121,9 +130,9 @@ impl Options {
 }
 
 /// Loads a file; a refusal shows the line, and that of a bad byte its line and column.
-fn load(path: &str, partial: bool) -> Result<(RwkvTokenizer, usize), Failure> {
+fn load(path: &str, edition: u32, partial: bool) -> Result<(RwkvTokenizer, usize), Failure> {
     let text = std::fs::read(path).map_err(|error| refused(format!("{path}: {error}")))?;
-    match RwkvTokenizer::from_vocab_bytes(&text, partial) {
+    match RwkvTokenizer::from_vocab_edition(&text, edition, partial) {
         Ok(tokenizer) => Ok((tokenizer, text.len())),
         Err(VocabError::Invalid(refusal)) => Err(refused(format!("{path}: {}", told(&text, refusal)))),
         Err(error) => Err(refused(error)),
@@ -236,9 +245,10 @@ fn stream(options: &Options) -> Result<(), Failure> {
 
 fn check(options: &Options) -> Result<(), Failure> {
     let [file] = options.words.as_slice() else { return Err(misused("check needs one file")) };
-    let (tokenizer, len) = load(&lossy(file), options.partial)?;
+    let (tokenizer, len) = load(&lossy(file), options.edition, options.partial)?;
     let counts = tokenizer.counts();
-    println!("accepted as {}: {len} bytes of text", if options.partial { "partial" } else { "full" });
+    let mode = if options.partial { "partial" } else { "full" };
+    println!("accepted as {mode}, edition {}: {len} bytes of text", options.edition);
     println!("{:>8} tokens", counts.tokens);
     println!("{:>8} nodes", counts.nodes);
     println!("{:>8} blob bytes", counts.blob_bytes);

@@ -5,6 +5,10 @@ use std::process::Command;
 const WANTED: &str = "\
 load 8: 1 1 0 0 0 0
 load 2: 2 3 0 0 0 0
+load 0: 0 0 1 2 2 256
+ab 0: 1
+load 12: 1 1 0 0 0 0
+load 34: 0 0 0 0 0 0
 load 0: 0 0 5 5 10 512
 abcd 0: 4
 aab 0: 1 3

@@ -75,6 +75,40 @@ fn checks() {
     assert!(status == 1 && error.contains("line 2: the literal") && error.contains("2 | 2 'b\\q' 1"), "{error}");
 }
 
+/// The edition is 1 where none is given; another one than 1 and 2 is told in words, and what is no number with the usage.
+#[test]
+fn takes_the_edition() {
+    let path = file("edition_2.txt", b"1 '\\01' 1\n2 '\\U0001f6eb' 4\n");
+    let options = ["--partial", "--vocab", &path];
+    let with = |words: &[&str], input: &[u8]| run(&[words, &options[..]].concat(), input);
+    assert_eq!(with(&["encode", "--edition", "2"], b"\xf0\x9f\x9b\xab\x01"), (0, "2 1\n".into(), "".into()));
+    assert_eq!(with(&["decode", "--edition", "2", "1"], b""), (0, "\u{1}".into(), "".into()));
+    for (command, input) in [("encode", "a"), ("decode", "1"), ("stream", "a"), ("demo", "")] {
+        let (status, out, error) = with(&[command], input.as_bytes());
+        assert!(
+            (status, out.as_str()) == (1, "") && error.contains("line 1: ") && error.contains("(number 14)"),
+            "{command}: {error}"
+        );
+        let (status, out, error) = with(&[command, "--edition", "3"], input.as_bytes());
+        let words = format!("bombrezen: {path}: the vocabulary's edition is neither 1 nor 2 (number 34)\n");
+        assert_eq!((status, out.as_str(), error), (1, "", words), "{command}");
+        let (status, _, error) = run(&[command, "--edition", "0"], input.as_bytes());
+        assert!(status == 1 && error.contains("neither 1 nor 2 (number 34)"), "{command}: {error}");
+    }
+    let (status, out, _) = run(&["check", "--partial", "--edition", "2", &path], b"");
+    assert!(status == 0 && out.starts_with("accepted as partial, edition 2: 27 bytes of text\n"), "{out}");
+    let (status, out, _) = run(&["check", "--partial", &file("v_edition.txt", V)], b"");
+    assert!(status == 0 && out.starts_with("accepted as partial, edition 1: 45 bytes of text\n"), "{out}");
+    for (words, told) in [
+        (&["encode", "--edition", "x"][..], "\"x\" is none\nusage:"),
+        (&["check", "--edition", "4294967296", &path], "up to 4294967295, and \"4294967296\" is none\nusage:"),
+        (&["decode", "--edition"], "--edition needs a number\nusage:"),
+    ] {
+        let (status, out, error) = run(words, b"");
+        assert!((status, out.as_str()) == (2, "") && error.contains(told), "{error}");
+    }
+}
+
 /// The first bad byte of a text is told by line, column and offset. A column is a character, and the byte's line is shown around it.
 #[test]
 fn shows_where_the_first_bad_byte_is() {

@@ -1,4 +1,4 @@
-/* Loads document 01's vocabulary V, encodes, decodes and streams, and prints what comes out. */
+/* Loads a line of edition 2 and document 01's vocabulary V, encodes, decodes and streams, and prints what comes out. */
 #include "rwkv_tokenizer.h"
 #include <inttypes.h>
 #include <stdio.h>
@@ -15,9 +15,9 @@ static rwkv_node nodes[16];
 #define MEMORY PART(single), PART(offsets), PART(blob), PART(roots), PART(table)
 #define BYTES(text) (const uint8_t *)(text), strlen(text)
 
-static void load(const char *text) {
+static void load(const char *text, uint32_t edition) {
     uint64_t report[6];
-    uint32_t number = rwkv_load(BYTES(text), true, MEMORY, PART(nodes), PART(used), PART(used_bases), report);
+    uint32_t number = rwkv_load(BYTES(text), edition, true, MEMORY, PART(nodes), PART(used), PART(used_bases), report);
     printf("load %" PRIu32 ":", number);
     for (size_t i = 0; i < LEN(report); i++) printf(" %" PRIu64, report[i]);
     printf("\n");
@@ -60,9 +60,13 @@ static void stream(const char *const *pieces, size_t count) {
 
 int main(void) {
     const char *const pieces[] = {"ab", "b", "c"}, *const stopped[] = {"abc"};
-    load("0 'a' 1\n");
-    load("1 '\xff' 1\n2 '\x80' 1\n");
-    load("1 'a' 1\n2 'b' 1\n3 'ab' 2\n4 'abcd' 4\n5 'bc' 2\n");
+    load("0 'a' 1\n", 1);
+    load("1 '\xff' 1\n2 '\x80' 1\n", 1);
+    load("1 '\\141\\142' 2\n", 2);
+    encode("ab");
+    load("1 '\\141\\142' 2\n", 1);
+    load("1 '\\141\\142' 2\n", 3);
+    load("1 'a' 1\n2 'b' 1\n3 'ab' 2\n4 'abcd' 4\n5 'bc' 2\n", 1);
     encode("abcd");
     encode("aab");
     encode("abc");

@@ -1,16 +1,29 @@
-//! The wrapper on document 01's examples, and where it has to lend more memory.
-use bombrezen::{DecodeError, PHRASEOLOGY, Place, Refusal, RwkvTokenizer, StreamError, VocabError};
+//! The wrapper on the documents' examples, and where it has to lend more memory.
+use bombrezen::ffi::{self, LoadMemory, Node};
+use bombrezen::{DecodeError, PHRASEOLOGY, Place, Refusal, RwkvTokenizer, StreamError, VocabError, reason};
 
 /// Document 01's vocabulary V.
 fn v() -> RwkvTokenizer {
     RwkvTokenizer::from_vocab_str_partial("1 'a' 1\n2 'b' 1\n3 'ab' 2\n4 'abcd' 4\n5 'bc' 2\n").expect("V loads")
 }
 
-/// The number and place of a refused text.
+/// The number and place of a refused text of edition 1.
 fn refusal(text: &[u8], partial: bool) -> (u32, Place) {
-    match RwkvTokenizer::from_vocab_bytes(text, partial) {
+    number_and_place(RwkvTokenizer::from_vocab_bytes(text, partial))
+}
+
+fn number_and_place(refused: Result<RwkvTokenizer, VocabError>) -> (u32, Place) {
+    match refused {
         Err(VocabError::Invalid(Refusal { number, place })) => (number, place),
         other => panic!("{other:?}"),
+    }
+}
+
+/// The bytes of a literal of an edition, or the number of the line with it and with this length.
+fn literal(literal: &str, edition: u32, len: usize) -> Result<Vec<u8>, u32> {
+    match RwkvTokenizer::from_vocab_edition(format!("1 {literal} {len}").as_bytes(), edition, true) {
+        Ok(tokenizer) => Ok(tokenizer.decode_bytes(&[1]).unwrap()),
+        refused => Err(number_and_place(refused).0),
     }
 }
 
@@ -75,6 +88,71 @@ fn refusals_have_number_place_and_words() {
     assert_eq!(refusal(b"", true), (19, Place::None));
     let error = RwkvTokenizer::from_vocab_str_partial("0 'a' 1").unwrap_err();
     assert_eq!(error.to_string(), "line 1: the id is 0, which is reserved (number 8)");
+}
+
+#[test]
+fn edition_2_has_more_escapes() {
+    assert_eq!(literal(r"'\01'", 2, 1), Ok(vec![1]));
+    assert_eq!(literal(r"'\01'", 1, 1), Err(14));
+    assert_eq!(literal(r"'\01'", 1, 2), Ok(vec![0, b'1']));
+    assert_eq!(literal(r"'\01'", 2, 2), Err(14));
+    for (text, bytes) in [
+        (r"'\a\b\f\v'", &b"\x07\x08\x0c\x0b"[..]),
+        (r"'\0012\08\7'", b"\x012\x008\x07"),
+        (r"'\400\777'", "\u{100}\u{1ff}".as_bytes()),
+        (r"b'\377\0'", b"\xff\0"),
+        (r"'\U0010ffff\U0000D7FF'", "\u{10ffff}\u{d7ff}".as_bytes()),
+    ] {
+        assert_eq!(literal(text, 2, bytes.len()), Ok(bytes.to_vec()), "{text}");
+    }
+    for text in
+        [r"'\8'", r"b'\400'", r"'\U0000d800'", r"'\U00110000'", r"b'\U00000041'", r"'\U0000041'", r"'\N{DIGIT ONE}'", r"'\ud800'"]
+    {
+        assert_eq!(literal(text, 2, 1), Err(12), "{text}");
+    }
+    let phraseology = |edition| RwkvTokenizer::from_vocab_edition(PHRASEOLOGY.as_bytes(), edition, false).unwrap().counts();
+    assert_eq!(phraseology(2), phraseology(1));
+}
+
+#[test]
+fn other_editions_are_refused() {
+    for edition in [0, 3, 257, u32::MAX] {
+        for text in [&b"1 'a' 1\n"[..], b"\xff", b""] {
+            assert_eq!(number_and_place(RwkvTokenizer::from_vocab_edition(text, edition, true)), (34, Place::None));
+        }
+    }
+    let error = RwkvTokenizer::from_vocab_edition(b"1 'a' 1\n", 3, true).unwrap_err();
+    assert_eq!(error.to_string(), format!("{} (number 34)", reason(34)));
+    assert!(reason(34).contains("neither 1 nor 2"));
+}
+
+/// 34 comes before 1, and changes none of the memory that is lent: neither the vocabulary's nor the work memory.
+#[test]
+fn other_editions_change_nothing() {
+    for cells in [0, 255, 256] {
+        let (mut single, mut blob, mut table) = (vec![3; cells], [3; 64], [3; 1024]);
+        let (mut offsets, mut roots) = (vec![3; 65_537], vec![3; 65_536]);
+        let (mut nodes, mut used, mut used_bases) = ([Node::default(); 8], [9; 16], [9; 16]);
+        for (edition, wanted) in [(0, 34), (3, 34), (u32::MAX, 34), (1, u32::from(cells < 256)), (0, 34)] {
+            let before = (single.clone(), offsets.clone(), blob, roots.clone(), table, nodes, used, used_bases);
+            let lent = LoadMemory {
+                single: &mut single,
+                offsets: &mut offsets,
+                blob: &mut blob,
+                roots: &mut roots,
+                table: &mut table,
+                nodes: &mut nodes,
+                used: &mut used,
+                used_bases: &mut used_bases,
+            };
+            let (number, report) = ffi::load(b"1 'a' 1\n2 'ab' 2\n", edition, true, lent);
+            assert_eq!(number, wanted, "edition {edition}, {cells} cells");
+            if number != 0 {
+                let after = (single.clone(), offsets.clone(), blob, roots.clone(), table, nodes, used, used_bases);
+                assert!(report == [0; 6] && after == before, "edition {edition}, {cells} cells");
+            }
+        }
+    }
 }
 
 #[test]

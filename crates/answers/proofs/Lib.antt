@@ -1,3 +1,3 @@
 -- What the proofs of this crate and of `vocabulary` share.
-pub mod TakingLines
+pub mod TakingRecords
 pub mod Settling

@@ -1,9 +1,9 @@
 -- What a load's answer means, in the terms of `spec`, and what it leaves: what the contracts of the entries cite. Assumes nothing.
 use mathlib.Core.Path.{_≡_}
 use mathlib.Core.List.{List}
-use Prim.Native.Nat.{ℕ, _≤_}
+use Prim.Native.Nat.{ℕ}
 use Rattle.spec.specs.Memory.{Memory}
-use Rattle.spec.specs.Load.{nowhere, noCounts, LoadAnswer, LoadResult}
+use Rattle.spec.specs.Load.{nowhere, noCounts, LoadAnswer, LoadResult, Start, halts, goes}
 use Rattle.spec.specs.Load as spec
 use Rattle.nodes.specs.Run.{Nodes}
 use Rattle.source.specs.SourceAnswers.{placeOf}
@@ -24,6 +24,7 @@ answerOf (Load.Refused f) = record { number = f .number; place = placeOf (f .pla
 abbrev pub loaded : Load → Memory → LoadResult
 loaded a m = record { answer = answerOf a; memory = m }
 
--- "After 1 and 2 nothing has changed": the work memory is as it was. Otherwise its contents are free.
-abbrev pub WorkKept : ℕ → (ns : Nodes) (us bs : List ℕ) (ns′ : Nodes) (us′ bs′ : List ℕ) → Type 0
-WorkKept number ns us bs ns′ us′ bs′ = 1 ≤ number → number ≤ 2 → (ns′ ≡ ns) × (us′ ≡ us) × (bs′ ≡ bs)
+-- A load that halts before any record has changed nothing: the work memory is as it was. Else its contents are free.
+abbrev pub WorkKept : Start → (ns : Nodes) (us bs : List ℕ) (ns′ : Nodes) (us′ bs′ : List ℕ) → Type 0
+WorkKept (halts number place) ns us bs ns′ us′ bs′ = (ns′ ≡ ns) × (us′ ≡ us) × (bs′ ≡ bs)
+WorkKept (goes mode body) ns us bs ns′ us′ bs′ = Unit {0}

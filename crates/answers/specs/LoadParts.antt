@@ -1,5 +1,5 @@
--- What the parts of a load give, case by case: its end, and the lines of a text one by one. Definitions that repeat a function's body stand
--- here for the walks that cite them; what they come to is `LinesAs` and, for the end, `answers` Settling. Assumes nothing.
+-- What the parts of a load give, case by case: its end, and the records of a source one by one. Definitions that repeat a function's body
+-- stand here for the walks that cite them; what they come to is `RecordsAs` and, for the end, `answers` Settling. Assumes nothing.
 use mathlib.Core.Path.{_≡_}
 use mathlib.Core.Bool.{Bool, true, false}
 use mathlib.Core.List.{List}
@@ -7,7 +7,7 @@ use Prim.Native.Nat.{ℕ, _+_}
 use lib.IntN.{ℤ}
 use Rattle.spec.specs.Token.{Token}
 use Rattle.spec.specs.Memory.{Memory, emptied}
-use Rattle.spec.specs.Load.{Room, line, refused, finish, load}
+use Rattle.spec.specs.Load.{Room, Form, line, refused, finish, load}
 use Rattle.nodes.specs.Run.{Nodes}
 use Rattle.tokens.specs.Built.{Built}
 use Rattle.tokens.specs.declared.Build.{Build}
@@ -37,9 +37,9 @@ abbrev pub leftBy : Load → Memory → Memory
 leftBy (Load.Accepted c) m = m
 leftBy (Load.Refused f) m = emptied m
 
--- ---- the lines of a text
+-- ---- the records of a source
 
--- no line is read yet
+-- no record is read yet
 abbrev pub begunAs : Build → Taking
 begunAs st = record { build = st; takes = false; id = 0; len = 0; at = 0; lines = 0; number = 0 }
 
@@ -47,7 +47,7 @@ begunAs st = record { build = st; takes = false; id = 0; len = 0; at = 0; lines 
 abbrev pub stoppedAs : Taking → ℕ → Taking
 stoppedAs t n = record { build = t .build; takes = false; id = t .id; len = t .len; at = t .at; lines = t .lines; number = n }
 
--- one line more was read, and the next one starts at `next`
+-- one record more was read, and the next one starts at `next`
 abbrev pub pastAs : Taking → ℕ → Taking
 pastAs t next = record {
   build = t .build;
@@ -60,8 +60,8 @@ pastAs t next = record {
 }
 
 -- and so the token that it states is to be taken, or its number ends the taking
-abbrev pub lineAs : Taking → ℕ → Read → Taking
-lineAs t next (Read.Found id n) = record {
+abbrev pub recordAs : Taking → ℕ → Read → Taking
+recordAs t next (Read.Found id n) = record {
   build = t .build;
   takes = true;
   id = id;
@@ -70,7 +70,7 @@ lineAs t next (Read.Found id n) = record {
   lines = pastAs t next .lines;
   number = 0;
 }
-lineAs t next (Read.Refused n) = stoppedAs (pastAs t next) n
+recordAs t next (Read.Refused n) = stoppedAs (pastAs t next) n
 
 -- the token was taken, or its number ends the taking
 abbrev pub pushedAs : Taking → Pushed → Taking
@@ -85,7 +85,8 @@ pushedAs t (Pushed.Taken st) = record {
 }
 pushedAs t (Pushed.Refused n) = stoppedAs t n
 
--- Number 0: the lines passed, and the memory holds their tokens. Else refused, by the number and at the line that the table gives.
-pub record LinesAs (partial : Bool) (r : Room) (text : List ℕ) (t : Taking) (s : List ℤ) (os bl rs : List ℕ) (ns : Nodes) : Type 0 where
-  pub all : t .number ≡ 0 → (ts : List Token) × (load partial r text ≡ finish partial r ts) × Built ts s os bl rs ns (t .build)
-  pub refusal : (t .number ≡ 0 → ⊥) → load partial r text ≡ refused (t .number) (line (t .lines))
+-- Number 0: the records passed, and the memory holds their tokens. Else refused, by the number and at the line that the table gives.
+pub record RecordsAs (form : Form) (partial : Bool) (r : Room) (body : List ℕ) (t : Taking) (s : List ℤ) (os bl rs : List ℕ) (ns : Nodes)
+    : Type 0 where
+  pub all : t .number ≡ 0 → (ts : List Token) × (load form partial r body ≡ finish partial r ts) × Built ts s os bl rs ns (t .build)
+  pub refusal : (t .number ≡ 0 → ⊥) → load form partial r body ≡ refused (t .number) (line (t .lines))

@@ -16,16 +16,15 @@ use Rattle.spec.specs.Memory.{Memory, tooShort, Loaded}
 use Rattle.spec.specs.Encode.{Encoding, encoding, encodeAnswer, Output, encodeOn}
 use Rattle.spec.specs.Decode.{lookup, Decoding, decoding, decodeOutput, decodeOn, textOutput, decodeTextOn, firstAbsent, lossyOutput}
 use Rattle.spec.specs.Decode.{decodeLossyOn}
-use Rattle.spec.specs.Load.{tableRoom, load, LoadResult, loadOn}
+use Rattle.spec.specs.Load.{tableRoom, Form, load, LoadResult, loadOn}
 use Rattle.running.specs.ScanLaws.{ids-present, round-trip}
-use Rattle.laws.specs.FirstBad.{well-formed-none}
 use Rattle.laws.specs.Tests.{and-l, and-r}
 use Rattle.laws.specs.Spans.{looking, present-bytes}
 use Rattle.laws.specs.Matching.{matching}
 use Rattle.laws.specs.Encoding.{encoding-is-scan, encoding-is-cut}
 use Rattle.laws.specs.Decoding.{decoding-joins, decoding-stops, decoding-fills}
 use Rattle.loading.specs.Accepted.{full-is-full}
-use Rattle.loading.specs.Left.{passed, loads-accepted, loads-loaded}
+use Rattle.loading.specs.Left.{loads-accepted, loads-loaded}
 use Rattle.demands.proofs.Room.{loaded-long}
 use Rattle.demands.proofs.Demand3.{demand3}
 use Rattle.demands.specs.DemandTheorems.{Gives, TextInIdsOut, TextAccepted}
@@ -111,26 +110,29 @@ loaded-gives m ts L =
         decode-on m l n (scan ts s .ids) _ (decoding-joins m ts L (scan ts s .ids) (ids-present ts (L .valid) s) n room)
         ∙ ap (λ (x : List ℕ). record { answer = whole (length x); cells = x }) j
 
-pub text-in-ids-out : (partial : Bool) (nodes used bases : ℕ) (m : Memory) (text : List ℕ) (r : LoadResult)
-    → TextInIdsOut partial nodes used bases m text r
-text-in-ids-out partial nodes used bases m text r h L e =
-    let table = tableRoom (length (m .table)) used bases in
-    let zero : loadOn partial nodes table m text .answer .number ≡ 0 = ap (λ (x : LoadResult). x .answer .number) (sym L) ∙ e in
-    let P = passed partial nodes table m text zero in
-    let (ts, a, M) = loads-loaded partial nodes table m text h (room-table (length (m .table)) used bases) zero in
-    let q = L ∙ loads-accepted partial nodes table m text (P .long) (P .good) ts a in (
-      ts,
-      record {
-        tokens = a;
-        counts = ap (λ (x : LoadResult). x .answer .counts) q;
-        valid = M .valid;
-        gives = loaded-gives (r .memory) ts (subst (λ (x : LoadResult). Loaded (x .memory) ts) (sym L) M);
-        full = λ f. full-is-full _ text ts (ap (λ (b : Bool). load b (record { nodes = nodes; blob = length (m .blob); table = table })
-            text) (sym f) ∙ a);
-      },
-    )
+module _ (form : Form) (partial : Bool) (nodes used bases : ℕ) (m : Memory) (s : List ℕ) (r : LoadResult) where
+  abbrev table : ℕ
+  table = tableRoom (length (m .table)) used bases
 
-pub text-accepted : (partial : Bool) (nodes used bases : ℕ) (m : Memory) (text : List ℕ) (r : LoadResult)
-    → TextAccepted partial nodes used bases m text r
-text-accepted partial nodes used bases m text r L s w ts a =
-    L ∙ loads-accepted partial nodes (tableRoom (length (m .table)) used bases) m text s (well-formed-none text w) ts a
+  pub text-in-ids-out : TextInIdsOut form partial nodes used bases m s r
+  text-in-ids-out h L e =
+      let zero : loadOn form partial nodes table m s .answer .number ≡ 0 = ap (λ (x : LoadResult). x .answer .number) (sym L) ∙ e in
+      let (mode, body, ts, starts, a, M) = loads-loaded form partial nodes table m s h (room-table (length (m .table)) used bases) zero in
+      let q = L ∙ loads-accepted form partial nodes table m s mode body starts ts a in (
+        mode,
+        ts,
+        record {
+          states = record { body = body; starts = starts; tokens = a };
+          counts = ap (λ (x : LoadResult). x .answer .counts) q;
+          valid = M .valid;
+          gives = loaded-gives (r .memory) ts (subst (λ (x : LoadResult). Loaded (x .memory) ts) (sym L) M);
+          full = λ f. full-is-full form _ body ts (ap (λ (b : Bool). load form b (record {
+            nodes = nodes;
+            blob = length (m .blob);
+            table = table;
+          }) body) (sym f) ∙ a);
+        },
+      )
+
+  pub text-accepted : TextAccepted form partial nodes used bases m s r
+  text-accepted L mode ts S = L ∙ loads-accepted form partial nodes table m s mode (S .body) (S .starts) ts (S .tokens)

@@ -7,7 +7,7 @@ use Prim.Native.Nat.{ℕ, _+_, _≤_, _<_}
 use lib.ListN.{getD, length, take}
 use Rattle.spec.specs.Token.{Token, longest, bytesOf, joined, present, Full}
 use Rattle.spec.specs.Answer.{Answer, whole}
-use Rattle.spec.specs.Memory.{Memory, Loaded, tooShort, memoryOf}
+use Rattle.spec.specs.Memory.{Memory, Loaded, memoryOf}
 use Rattle.spec.specs.Stream.{fresh, Call, outOf, Called, callOn}
 use Rattle.spec.specs.Plain.{Plain, start, Reply, Follows, repliesOn, BytePieces}
 use Rattle.stream_record.specs.declared.Stream.{Stream}
@@ -16,13 +16,13 @@ use Rattle.stream_record.specs.Answers.{recordOf, answerOf, Answered}
 use Rattle.reports.specs.Leaves.{Leaves}
 use mathlib.Core.Bool.{Bool, true, false}
 use Rattle.spec.specs.Lists.{all, Bytes}
-use Rattle.spec.specs.Utf8.{wellFormed, firstBad, lossy}
+use Rattle.spec.specs.Utf8.{firstBad, lossy}
 use Rattle.spec.specs.Scan.{done, scan}
 use Rattle.spec.specs.Valid.{Valid}
 use Rattle.spec.specs.Match.{matchOn}
 use Rattle.spec.specs.Encode.{encodeAnswer, encodeOn}
 use Rattle.spec.specs.Decode.{decodeOn, textAnswer, decodeTextOn, decodeLossyOn}
-use Rattle.spec.specs.Load.{tableRoom, nowhere, Outcome, accepted, load, countsOf, LoadResult, loadOn}
+use Rattle.spec.specs.Load.{tableRoom, Form, vocabulary, nowhere, accepted, load, goes, startOf, countsOf, LoadResult, loadOn}
 use Rattle.spec.specs.Theorems.{matchOf, encodeEnd}
 use Rattle.reports.specs.Report.{LoadReported}
 
@@ -101,8 +101,8 @@ Demand3ByValue = (m : Memory) (ts : List Token) → Loaded m ts → Plainly repl
 
 -- ── Text in, ids out ─────────────────────────────────────────────────
 
--- For every text that a load accepts, what matching, encoding, decoding and the running encoder give over the memory that it left is said
--- on the tokens that the text states, whatever the memory held before.
+-- For every text, of either edition, that a load accepts, what matching, encoding, decoding and the running encoder give over the memory
+-- that it left is said on the tokens that the text states, whatever the memory held before. So of every other form of a source.
 
 -- What the memory m gives, said on the tokens ts alone: demand 2, and demand 3 as it stands.
 pub record Gives (ts : List Token) (m : Memory) : Type 0 where
@@ -153,57 +153,66 @@ pub record Gives (ts : List Token) (m : Memory) : Type 0 where
   pub lent : Plainly replyOf (CallsLent m) ts
   pub by-value : Plainly replyGiven (CallsByValue m) ts
 
--- What a text states where it is loaded into m, with room for so many nodes and marks.
-abbrev pub states : Bool → ℕ → ℕ → ℕ → Memory → List ℕ → Outcome
-states partial nodes used bases m text =
-    load partial (record { nodes = nodes; blob = length (m .blob); table = tableRoom (length (m .table)) used bases }) text
+-- A load of the source s, of some form, into m, with room for so many nodes and marks. Of a text the mode is the one asked for, and all of
+-- it is read (`spec` Theorems, `TextGoes`).
+module _ (form : Form) (partial : Bool) (nodes used bases : ℕ) (m : Memory) (s : List ℕ) where
+  -- Nothing is refused before the records, and in this mode they state these tokens.
+  pub record States (mode : Bool) (ts : List Token) : Type 0 where
+    pub body : List ℕ
+    pub starts : startOf form partial m s ≡ goes mode body
+    pub tokens : load form mode (record {
+      nodes = nodes;
+      blob = length (m .blob);
+      table = tableRoom (length (m .table)) used bases;
+    }) body ≡ accepted ts
 
--- Its load, as the contracts of the entries say it.
-module _ (partial : Bool) (nodes used bases : ℕ) (m : Memory) (text : List ℕ) (r : LoadResult) where
-  abbrev pub Loads : Type 0
-  Loads = (r ≡ loadOn partial nodes (tableRoom (length (m .table)) used bases) m text)
+  -- the load gave r, as the contracts of the entries say it
+  module _ (r : LoadResult) where
+    abbrev pub Loads : Type 0
+    Loads = (r ≡ loadOn form partial nodes (tableRoom (length (m .table)) used bases) m s)
 
-  -- A load that answers 0 stated tokens: the answer has their counts, and the memory left gives what they say. In full mode every byte
-  -- is one of them.
-  pub record TextIn (ts : List Token) : Type 0 where
-    pub tokens : states partial nodes used bases m text ≡ accepted ts
-    pub counts : r .answer .counts ≡ countsOf ts
-    pub valid : Valid ts
-    pub gives : Gives ts (r .memory)
-    pub full : partial ≡ false → Full ts
+    -- A load that answers 0 stated tokens: the answer has their counts, and the memory left gives what they say. In full mode every byte
+    -- is one of them.
+    pub record TextIn (mode : Bool) (ts : List Token) : Type 0 where
+      pub states : States mode ts
+      pub counts : r .answer .counts ≡ countsOf ts
+      pub valid : Valid ts
+      pub gives : Gives ts (r .memory)
+      pub full : mode ≡ false → Full ts
 
-  abbrev pub TextInIdsOut : Type 0
-  TextInIdsOut = Bytes text → Loads → r .answer .number ≡ 0 → (ts : List Token) × TextIn ts
+    abbrev pub TextInIdsOut : Type 0
+    TextInIdsOut = Bytes s → Loads → r .answer .number ≡ 0 → (mode : Bool) × (ts : List Token) × TextIn mode ts
 
-  -- A text that states tokens is accepted with their counts and their memory, where that is long enough for number 1 and the text is UTF-8.
-  abbrev pub TextAccepted : Type 0
-  TextAccepted = Loads → tooShort m ≡ false → wellFormed text ≡ true → (ts : List Token)
-      → states partial nodes used bases m text ≡ accepted ts
-      → r ≡ record { answer = record { number = 0; place = nowhere; counts = countsOf ts }; memory = memoryOf ts m }
+    -- A source that states tokens is accepted with their counts and their memory. What a text needs for it is said by `TextStarts` of
+    -- `spec` Theorems: an edition that there is, memory that is long enough for number 1, and UTF-8.
+    abbrev pub TextAccepted : Type 0
+    TextAccepted = Loads → (mode : Bool) (ts : List Token) → States mode ts
+        → r ≡ record { answer = record { number = 0; place = nowhere; counts = countsOf ts }; memory = memoryOf ts m }
 
 -- ── Demand 3 from a text on ──────────────────────────────────────────
 
--- `rwkv_load` took the text, whatever the memory held before; `rwkv_fresh` made a stream; then came `rwkv_add` and `rwkv_end`, in any
--- number and order, refused ones included. All that the calls give and leave is the plain stream's of document 01 over the tokens that
--- the text states. The hypotheses are what the contracts of these calls promise, and nothing else. The same is said of the calls by
--- value.
+-- `rwkv_load` took the text, of edition 1 or 2, whatever the memory held before; `rwkv_fresh` made a stream; then came `rwkv_add` and
+-- `rwkv_end`, in any number and order, refused ones included. All that the calls give and leave is the plain stream's of document 01 over
+-- the tokens that the text states. The hypotheses are what the contracts of these calls promise, and nothing else. The same is said of
+-- the calls by value.
 
--- what the text states is accepted with the tokens ts, and over the memory left every list of calls on a fresh stream follows the plain
+-- what the source states is accepted with the tokens ts, and over the memory left every list of calls on a fresh stream follows the plain
 -- stream of ts
-module _ (partial : Bool) (nodes used bases : ℕ) (m : Memory) (text : List ℕ) where
-  pub record Streams (after : Memory) (ts : List Token) : Type 0 where
-    pub tokens : states partial nodes used bases m text ≡ accepted ts
+module _ (form : Form) (partial : Bool) (nodes used bases : ℕ) (m : Memory) (s : List ℕ) where
+  pub record Streams (after : Memory) (mode : Bool) (ts : List Token) : Type 0 where
+    pub states : States form partial nodes used bases m s mode ts
     pub lent : Plainly replyOf (CallsLent after) ts
     pub by-value : Plainly replyGiven (CallsByValue after) ts
 
--- `rwkv_load` gave 0 for a text that it was lent with the memory m, so many nodes and so many words in both runs of marks.
+-- `rwkv_load` gave 0 for a text of this edition that it was lent with the memory m, so many nodes and so many words in both runs of marks.
 abbrev pub Demand3FromText : Type 0
-Demand3FromText = (partial : Bool) (nodes used bases : ℕ) (m : Memory) (text : List ℕ) (r : ℕ) (report : List ℕ) (after : Memory)
-    → Bytes text → LoadReported (loadOn partial nodes (tableRoom (length (m .table)) used bases) m text) r report after → r ≡ 0
-    → (ts : List Token) × Streams partial nodes used bases m text after ts
+Demand3FromText = (edition : ℕ) (partial : Bool) (nodes used bases : ℕ) (m : Memory) (text : List ℕ) (r : ℕ) (report : List ℕ)
+    (after : Memory) → Bytes text
+    → LoadReported (loadOn (vocabulary edition) partial nodes (tableRoom (length (m .table)) used bases) m text) r report after → r ≡ 0
+    → (mode : Bool) × (ts : List Token) × Streams (vocabulary edition) partial nodes used bases m text after mode ts
 
--- `from_vocab_str` or `from_vocab_str_partial` gave r, with number 0.
+-- `from_source`, `from_vocab_str` or `from_vocab_str_partial` gave r, with number 0.
 abbrev pub Demand3FromTextByValue : Type 0
-Demand3FromTextByValue = (partial : Bool) (nodes used bases : ℕ) (m : Memory) (text : List ℕ) (r : LoadResult)
-    → Bytes text → Loads partial nodes used bases m text r → r .answer .number ≡ 0
-    → (ts : List Token) × Streams partial nodes used bases m text (r .memory) ts
+Demand3FromTextByValue = (form : Form) (partial : Bool) (nodes used bases : ℕ) (m : Memory) (s : List ℕ) (r : LoadResult)
+    → Bytes s → Loads form partial nodes used bases m s r → r .answer .number ≡ 0
+    → (mode : Bool) × (ts : List Token) × Streams form partial nodes used bases m s (r .memory) mode ts

@@ -1,8 +1,8 @@
 // Runs the leaves of loading and the decodings on the cases of standard input, one to a line, and writes each with its answer. A case is
-// a letter for what is asked, a space, and bytes in hexadecimal: L a literal, F the fields of a vocabulary line, T the lines of a text,
-// I an id, N a length, H a byte as a hexadecimal digit, U the beginning of a byte string that is UTF-8, S the same for a beginning and
-// each last byte; B a text, for what a load refuses before any line; D, X and Y ids to decode to bytes, text and lossy text. `cases.py`
-// makes the cases and, by Python's own means, the answers.
+// a letter for what is asked, a space, and bytes in hexadecimal: L a literal of edition 1, M one of edition 2, F the fields of a vocabulary
+// line, T the lines of a text, I an id, N a length, H a byte as a hexadecimal digit, U the beginning of a byte string that is UTF-8, S the
+// same for a beginning and each last byte; B an edition and a text, for what a load refuses before any line; D, X and Y ids to decode to
+// bytes, text and lossy text. `cases.py` makes the cases and, by Python's own means, the answers.
 use cases::unhex;
 use cases::write;
 use cases::write_bytes;
@@ -17,10 +17,10 @@ mod decode;
 mod runs;
 mod texts;
 
-// What a literal stands for, of at most 64 bytes.
-fn literal_case(text: &[u8]) {
+// What a literal of an edition stands for, of at most 64 bytes.
+fn literal_case(text: &[u8], edition: u32) {
     let mut bytes = [0u8; 64];
-    match literal::parse_python_literal_into(text, &mut bytes) {
+    match literal::parse_python_literal_into(text, edition, &mut bytes) {
         Literal::Length(n) => {
             if n <= 64 {
                 write_bytes(&bytes[..n]);
@@ -80,7 +80,8 @@ fn lines_case(text: &[u8]) {
 
 fn answer(kind: u8, bytes: &[u8]) {
     match kind {
-        b'L' => literal_case(bytes),
+        b'L' => literal_case(bytes, 1),
+        b'M' => literal_case(bytes, 2),
         b'F' => fields_case(bytes),
         b'T' => lines_case(bytes),
         b'I' => number_case(bytes, 4294967295, 6),

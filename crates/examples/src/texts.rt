@@ -21,26 +21,28 @@ fn write_refusal(number: u8, place: Place) {
     }
 }
 
-// Over memory of which so many cells of the offsets are lent.
-fn text_over(cells: usize, text: &[u8])
+// Of an edition, over memory of which so many cells of the offsets are lent.
+fn text_over(cells: usize, edition: u32, text: &[u8])
     requires { ⌜ cells ≤ 65537 ⌝ }
 {
     let single = [-1i32; 256];
     let offsets = [0u32; 65537];
     let roots = [0u64; 65536];
-    let refusal = source::early_refusal(text, &single, &offsets[..cells], &roots);
-    let place = refusal.place;
-    write_refusal(refusal.number, place);
+    let how = source::text_of(edition, true);
+    let start = source::start_of(text, how, &single, &offsets[..cells], &roots);
+    let place = start.place;
+    write_refusal(start.number, place);
 }
 
-// A byte, 1 for memory with one cell of the offsets too few, and the text.
+// A byte, 1 for memory with one cell of the offsets too few, the edition, and the text.
 pub fn text_case(case: &[u8]) {
-    if case.len() < 1 {
+    if case.len() < 2 {
         return;
     }
+    let edition = cells::u8_to_u32(case[1]);
     if case[0] == 1 {
-        text_over(65536, &case[1..]);
+        text_over(65536, edition, &case[2..]);
         return;
     }
-    text_over(65537, &case[1..]);
+    text_over(65537, edition, &case[2..]);
 }

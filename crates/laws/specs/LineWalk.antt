@@ -1,4 +1,5 @@
--- A walk over the lines of a text: one turn of it, `nextLine`, and that its turns give the lines. Assumes nothing.
+-- A walk over the lines of a text: one turn of it, `nextLine`, and that its turns give the lines. The same of the records of a source.
+-- Assumes nothing.
 use mathlib.Core.Path.{_≡_, refl, sym, ap, ap₂, _∙_, subst}
 use mathlib.Core.Bool.{Bool, true, false, cond}
 use mathlib.Core.Option.{Option, none, some, Option·none-ne-some, Option·some-injective}
@@ -11,6 +12,7 @@ use borrow.Author.Tests.{lt-ltb, ltb-true}
 use lib.ListN.{length, take, drop, getD, length-take}
 use lib.Seq.{append-snoc, drop-length, take-length, take-take, length-take-le}
 use Rattle.spec.specs.Line.{lf, cr, lessCR, withLF, withoutLF, lastLine, linesAfter, lines}
+use Rattle.spec.specs.Load.{Form, vocabulary, recordsIn}
 
 -- how many bytes stand before the first LF: all, if there is none
 unfoldable pub beforeLF : List ℕ → ℕ
@@ -150,3 +152,28 @@ nextLine-stays (b ∷ s) f e =
     subst (λ (g : First). Stays g (length (b ∷ s)))
     (Option·some-injective (firstLine (beforeLF (b ∷ s)) (b ∷ s)) f e)
     (firstLine-stays (beforeLF (b ∷ s)) (b ∷ s) (omega arith))
+
+-- ── The records of a source ──────────────────────────────────────────
+
+-- One turn of a walk: the first record, none if there is none. A record of a text is a line.
+unfoldable pub nextIn : Form → List ℕ → Option First
+unfolding nextLine
+nextIn (vocabulary edition) = nextLine
+
+-- the record of a turn, and the records of what follows it
+abbrev pub turnIn : Form → Option First → List ℕ → List (List ℕ)
+turnIn form none s = []
+turnIn form (some f) s = take (f .size) s ∷ recordsIn form (drop (f .next) s)
+
+-- Each turn gives the first record, and the walk goes on behind it.
+pub records-next : (form : Form) (s : List ℕ) → recordsIn form s ≡ turnIn form (nextIn form s) s
+unfolding recordsIn nextIn
+records-next (vocabulary edition) s = lines-next s ∙ go (nextLine s)
+  where
+    go : (o : Option First) → turn o s ≡ turnIn (vocabulary edition) o s
+    go none = refl
+    go (some f) = refl
+
+pub next-stays : (form : Form) (s : List ℕ) (f : First) → nextIn form s ≡ some f → Stays f (length s)
+unfolding nextIn
+next-stays (vocabulary edition) s f e = nextLine-stays s f e

@@ -1,11 +1,11 @@
 // Python literals: the bytes that one stands for. An answer is an enum, and a contract says by a definition of `spec` that it is what
-// document 01 says. Any bytes may be given.
+// the documents say. Any bytes may be given.
 ghost use mathlib.Core.Path.{_≡_};
 ghost use mathlib.Core.Option.{Option·map};
 ghost use Prim.Native.Nat.{_+_, _^_, _<_};
 ghost use lib.ListN.{length, set};
 ghost use lib.Seq.{sets};
-ghost use Rattle.spec.specs.Literal.{escape, inside, isQuote, quoted, read, literal};
+ghost use Rattle.spec.specs.Literal.{escapesOf, inside, isQuote, quoted, read, literal};
 ghost use Rattle.spec.specs.Utf8.{utf8Of};
 ghost use Rattle.literal.specs.Answers.{lengthOf, stored, ended, left};
 use escapes::Piece;
@@ -42,13 +42,15 @@ fn put_point(result: &mut [u8], at: usize, point: u32) -> usize
 }
 
 // What stands between the quotes.
-fn inside(text: &[u8], quote: u8, in_bytes: bool, result: &mut [u8]) -> Literal
-    ensures { λ r. ⌜ ended r (now (result .exit)) ≡ left (now (result .entry)) 0 (inside escape in_bytes quote (now (text .entry)) 0) ⌝ }
+fn inside(text: &[u8], quote: u8, in_bytes: bool, edition: u32, result: &mut [u8]) -> Literal
+    ensures { λ r.
+        ⌜ ended r (now (result .exit))
+        ≡ left (now (result .entry)) 0 (inside (escapesOf edition) in_bytes quote (now (text .entry)) 0) ⌝ }
 {
     let mut i = 0;
     let mut n = 0;
     while i < text.len() {
-        match escapes::piece_at(&text[i..], quote, in_bytes) {
+        match escapes::piece_at(&text[i..], quote, in_bytes, edition) {
             Piece::Byte(b, more) => {
                 put(result, n, b);
                 n += 1;
@@ -75,8 +77,9 @@ fn is_quote(b: u8) -> bool
 }
 
 // Quotes and what they hold.
-fn quoted(text: &[u8], in_bytes: bool, result: &mut [u8]) -> Literal
-    ensures { λ r. ⌜ ended r (now (result .exit)) ≡ left (now (result .entry)) 0 (quoted escape in_bytes (now (text .entry))) ⌝ }
+fn quoted(text: &[u8], in_bytes: bool, edition: u32, result: &mut [u8]) -> Literal
+    ensures { λ r.
+        ⌜ ended r (now (result .exit)) ≡ left (now (result .entry)) 0 (quoted (escapesOf edition) in_bytes (now (text .entry))) ⌝ }
 {
     if text.len() < 2 {
         return Literal::Bad;
@@ -89,21 +92,21 @@ fn quoted(text: &[u8], in_bytes: bool, result: &mut [u8]) -> Literal
     if text[end] != quote {
         return Literal::Bad;
     }
-    inside(&text[1..end], quote, in_bytes, result)
+    inside(&text[1..end], quote, in_bytes, edition, result)
 }
 
-// The bytes that a Python literal stands for, written to `result` as far as they fit; how many there are, or that the literal is bad.
-// Of a bad literal the bytes before its first fault are written.
-pub fn parse_python_literal_into(text: &[u8], result: &mut [u8]) -> Literal
-    ensures answer { λ r. ⌜ lengthOf r ≡ Option·map length (literal (now (text .entry))) ⌝ }
-    ensures cells { λ r. ⌜ now (result .exit) ≡ stored (read (now (text .entry)) .bytes) (now (result .entry)) ⌝ }
+// The bytes that a Python literal stands for in an edition, written to `result` as far as they fit; how many there are, or that the
+// literal is bad. Of a bad literal the bytes before its first fault are written.
+pub fn parse_python_literal_into(text: &[u8], edition: u32, result: &mut [u8]) -> Literal
+    ensures answer { λ r. ⌜ lengthOf r ≡ Option·map length (literal edition (now (text .entry))) ⌝ }
+    ensures cells { λ r. ⌜ now (result .exit) ≡ stored (read edition (now (text .entry)) .bytes) (now (result .entry)) ⌝ }
 {
     if text.len() == 0 {
         return Literal::Bad;
     }
     if text[0] == b'b' {
-        quoted(&text[1..], true, result)
+        quoted(&text[1..], true, edition, result)
     } else {
-        quoted(text, false, result)
+        quoted(text, false, edition, result)
     }
 }

@@ -1,10 +1,9 @@
--- The tokens of an accepted text are a valid vocabulary, and what the partial mode changes. Assumes nothing.
+-- The tokens of an accepted source are a valid vocabulary, and what the partial mode changes. Assumes nothing.
 use mathlib.Core.Path.{_≡_, refl, sym, ap, _∙_, subst}
 use mathlib.Core.Logic.{_⊎_, inl, inr}
 use mathlib.Core.Bool.{Bool, true, false, cond}
 use mathlib.Core.Option.{Option, none, some}
-use mathlib.Core.List.{List, [], _∷_, _++_, List·Memᴰ, List·Memᴰ·not-nil, List·Memᴰ·append-cases}
-use mathlib.Core.List.{List·Memᴰ·eq-of-singleton}
+use mathlib.Core.List.{List, [], _∷_, _++_, List·Memᴰ, List·Memᴰ·not-nil, List·Memᴰ·append-cases, List·Memᴰ·eq-of-singleton}
 use Prim.Native.Nat.{ℕ, zero, suc, _+_, _≤_, _<_}
 use native.Mathlib.Omega.{arith}
 use lib.Dec.{eqb, leb}
@@ -12,21 +11,22 @@ use lib.ListN.{length}
 use borrow.Author.Tests.{leb-true, eqb-true, eqb-false, ltb-false, not-true}
 use Rattle.spec.specs.Lists.{each, same, Bytes}
 use Rattle.spec.specs.Check.{Check, pass, refuse}
-use Rattle.spec.specs.Line.{lines, Fields}
+use Rattle.spec.specs.Line.{Fields}
 use Rattle.spec.specs.Literal.{literal}
 use Rattle.spec.specs.Token.{Token, seen}
 use Rattle.spec.specs.Trie.{nodeCount}
 use Rattle.spec.specs.Layout.{tableWords}
 use Rattle.spec.specs.Valid.{Rising, Distinct, Valid}
 use Rattle.spec.specs.Memory.{blobBytes}
-use Rattle.spec.specs.Load.{Room, idRule, lengthRule, readToken, readFields, readLine, admit, lastId, takeLine, Place, nowhere, line}
-use Rattle.spec.specs.Load.{byte, Outcome, accepted, refused, missing, demanded, finish, takeLines, load}
+use Rattle.spec.specs.Load.{Room, idRule, lengthRule, readToken, readFields, readLine, Form, vocabulary, recordsIn, reading, admit}
+use Rattle.spec.specs.Load.{lastId, takeOne, Place, nowhere, line, byte, Outcome, accepted, refused, missing, demanded, finish, takeAll}
+use Rattle.spec.specs.Load.{load}
 use Rattle.spec.specs.Theorems.{LoadsValid, FullIsFull, PartialDrops20}
 use Rattle.laws.specs.Tests.{either, neither, same-refl, clash}
 use Rattle.loading.specs.Checks.{need-pass, given-pass, then-pass}
-use Rattle.loading.specs.ByteStrings.{AllBytes, lines-bytes, fields-bytes, literal-bytes}
+use Rattle.loading.specs.ByteStrings.{AllBytes, records-bytes, fields-bytes, literal-bytes}
 
--- what a line that passed says of its token, after a token of id `previous`
+-- what a record that passed says of its token, after a token of id `previous`
 pub record Reads (previous : ℕ) (t : Token) : Type 0 where
   pub above : previous < t .id
   pub small : t .id < 65536
@@ -53,23 +53,28 @@ length-passes wanted t u e =
     let n = eqb-false (length (t .bytes)) 0 (not-true _ p) in
     (cc, omega (arith, n), leb-true (length (t .bytes)) 255 r)
 
-token-passes : (f : Fields) (id previous : ℕ) (t : Token) → Bytes (f .literal) → previous < id → id ≤ 65535 → readToken f id ≡ pass t
-    → Reads previous t
+token-passes : (edition : ℕ) (f : Fields) (id previous : ℕ) (t : Token) → Bytes (f .literal) → previous < id → id ≤ 65535
+    → readToken edition f id ≡ pass t → Reads previous t
 unfolding readToken
-token-passes f id previous t h a b e =
+token-passes edition f id previous t h a b e =
     let (wanted, p, e₁) = given-pass _ _ _ _ e in
     let (bs, q, e₂) = given-pass _ _ _ _ e₁ in
     let (z, n, l) = length-passes wanted (record { id = id; bytes = bs }) t e₂ in
-    subst (Reads previous) z (record { above = a; small = omega arith; nonempty = n; short = l; bytes = literal-bytes (f .literal) bs q h })
+    subst (Reads previous) z
+    (record { above = a; small = omega arith; nonempty = n; short = l; bytes = literal-bytes edition (f .literal) bs q h })
 
-pub read-passes : (previous : ℕ) (l : List ℕ) (t : Token) → Bytes l → readLine previous l ≡ pass t → Reads previous t
+line-passes : (edition previous : ℕ) (l : List ℕ) (t : Token) → Bytes l → readLine edition previous l ≡ pass t → Reads previous t
 unfolding readLine readFields
-read-passes previous l t h e =
+line-passes edition previous l t h e =
     let (f, p, e₁) = then-pass _ _ _ e in
     let (id, q, e₂) = given-pass _ _ _ _ e₁ in
     let (r, e₃) = need-pass _ _ _ _ e₂ in
-    let (a, e₄) = rule-passes previous id (readToken f id) t e₃ in
-    token-passes f id previous t (fields-bytes l f p h) a (leb-true id 65535 r) e₄
+    let (a, e₄) = rule-passes previous id (readToken edition f id) t e₃ in
+    token-passes edition f id previous t (fields-bytes l f p h) a (leb-true id 65535 r) e₄
+
+pub read-passes : (form : Form) (previous : ℕ) (r : List ℕ) (t : Token) → Bytes r → reading form previous r ≡ pass t → Reads previous t
+unfolding reading
+read-passes (vocabulary edition) previous r t h e = line-passes edition previous r t h e
 
 -- ---- one more token
 
@@ -147,16 +152,17 @@ valid-snoc ts t v r new = record {
         go (inl n) = h u n
         go (inr n) = subst P (sym (List·Memᴰ·eq-of-singleton n)) p
 
--- ---- the text
+-- ---- all records
 
--- what holds of the tokens before a line holds after it
-pub line-valid : (room : Room) (ts : List Token) (l : List ℕ) (more : List Token) → Valid ts → Bytes l → takeLine room ts l ≡ pass more
+-- what holds of the tokens before a record holds after it
+pub record-valid : (form : Form) (room : Room) (ts : List Token) (l : List ℕ) (more : List Token) → Valid ts → Bytes l
+    → takeOne form room ts l ≡ pass more
     → Valid more
-unfolding takeLine
-line-valid room ts l more v h e =
+unfolding takeOne
+record-valid form room ts l more v h e =
     let (t, p, q) = then-pass _ _ _ e in
     let a = admit-passes room ts t more q in
-    subst Valid (sym (a .more-is)) (valid-snoc ts t v (read-passes (lastId ts) l t h p) (a .new))
+    subst Valid (sym (a .more-is)) (valid-snoc ts t v (read-passes form (lastId ts) l t h p) (a .new))
 
 pub accepted≢refused : (ts : List Token) (n : ℕ) (p : Place) → refused n p ≡ accepted ts → ⊥
 accepted≢refused ts n p e = let z : _≡_ {A = ℕ} 0 1 = cc in omega arith
@@ -196,40 +202,44 @@ pub none-held : (room : Room) → Held room []
 unfolding blobBytes each
 none-held room = record { valid = empty-valid; blob = omega arith }
 
-pub line-held : (room : Room) (ts : List Token) (l : List ℕ) (more : List Token) → Held room ts → Bytes l → takeLine room ts l ≡ pass more
+pub record-held : (form : Form) (room : Room) (ts : List Token) (l : List ℕ) (more : List Token) → Held room ts → Bytes l
+    → takeOne form room ts l ≡ pass more
     → Held room more
-unfolding takeLine
-line-held room ts l more v h e =
+unfolding takeOne
+record-held form room ts l more v h e =
     let (t, p, q) = then-pass _ _ _ e in
-    record { valid = line-valid room ts l more (v .valid) h e; blob = admit-passes room ts t more q .blob }
+    record { valid = record-valid form room ts l more (v .valid) h e; blob = admit-passes room ts t more q .blob }
 
--- what an accepted text says of its tokens
-pub lines-accept : (partial : Bool) (room : Room) (n : ℕ) (ts : List Token) (ls : List (List ℕ)) (us : List Token) → Held room ts
+-- what an accepted source says of its tokens
+pub records-accept : (form : Form) (partial : Bool) (room : Room) (n : ℕ) (ts : List Token) (ls : List (List ℕ)) (us : List Token)
+    → Held room ts
     → AllBytes ls
-    → takeLines partial room n ts ls ≡ accepted us → Held room us × Finishes partial room us
-unfolding takeLines
-lines-accept partial room n ts [] us v h e =
+    → takeAll form partial room n ts ls ≡ accepted us → Held room us × Finishes partial room us
+unfolding takeAll
+records-accept form partial room n ts [] us v h e =
     let (z, f) = finish-accepts partial room ts us e in
     (subst (Held room) z v, subst (Finishes partial room) z f)
-lines-accept partial room n ts (l ∷ ls) us v h e = go (takeLine room ts l) refl e
-    (λ more w. lines-accept partial room (suc n) more ls us w (h .1))
+records-accept form partial room n ts (l ∷ ls) us v h e = go (takeOne form room ts l) refl e
+    (λ more w. records-accept form partial room (suc n) more ls us w (h .1))
   where
-    go : (c : Check (List Token)) → takeLine room ts l ≡ c
-        → elim c [ pass more ↦ takeLines partial room (suc n) more ls | refuse number ↦ refused number (line n) ] ≡ accepted us
-        → ((more : List Token) → Held room more → takeLines partial room (suc n) more ls ≡ accepted us → Held room us
+    go : (c : Check (List Token)) → takeOne form room ts l ≡ c
+        → elim c [ pass more ↦ takeAll form partial room (suc n) more ls | refuse number ↦ refused number (line n) ] ≡ accepted us
+        → ((more : List Token) → Held room more → takeAll form partial room (suc n) more ls ≡ accepted us → Held room us
         × Finishes partial room us)
         → Held room us × Finishes partial room us
-    go (pass more) p k r = r more (line-held room ts l more v (h .0) p) k
+    go (pass more) p k r = r more (record-held form room ts l more v (h .0) p) k
     go (refuse number) p k r = absurd (accepted≢refused us number (line n) k)
 
-pub load-accepts : (partial : Bool) (room : Room) (text : List ℕ) → Bytes text → (ts : List Token) → load partial room text ≡ accepted ts
+pub load-accepts : (form : Form) (partial : Bool) (room : Room) (body : List ℕ) → Bytes body → (ts : List Token)
+    → load form partial room body ≡ accepted ts
     → Held room ts × Finishes partial room ts
 unfolding load
-load-accepts partial room text h ts e = lines-accept partial room 1 [] (lines text) ts (none-held room) (lines-bytes text h) e
+load-accepts form partial room body h ts e =
+    records-accept form partial room 1 [] (recordsIn form body) ts (none-held room) (records-bytes form body h) e
 
--- The tokens of an accepted text are a valid vocabulary.
+-- The tokens of an accepted source are a valid vocabulary.
 pub loads-valid : LoadsValid
-loads-valid partial room text h ts e = load-accepts partial room text h ts e .0 .valid
+loads-valid form partial room body h ts e = load-accepts form partial room body h ts e .0 .valid
 
 -- ---- the modes
 
@@ -262,18 +272,19 @@ finish-modes room (t ∷ ts) = go (missing (t ∷ ts) 256 0)
     go none = inl refl
     go (some b) = inr (b, refl)
 
-lines-modes : (room : Room) (n : ℕ) (ts : List Token) (ls : List (List ℕ))
-    → (takeLines false room n ts ls ≡ takeLines true room n ts ls) ⊎ ((b : ℕ) × (takeLines false room n ts ls ≡ refused 20 (byte b)))
-unfolding takeLines
-lines-modes room n ts [] = finish-modes room ts
-lines-modes room n ts (l ∷ ls) = go (takeLine room ts l) (λ more. lines-modes room (suc n) more ls)
+records-modes : (form : Form) (room : Room) (n : ℕ) (ts : List Token) (ls : List (List ℕ))
+    → (takeAll form false room n ts ls ≡ takeAll form true room n ts ls)
+    ⊎ ((b : ℕ) × (takeAll form false room n ts ls ≡ refused 20 (byte b)))
+unfolding takeAll
+records-modes form room n ts [] = finish-modes room ts
+records-modes form room n ts (l ∷ ls) = go (takeOne form room ts l) (λ more. records-modes form room (suc n) more ls)
   where
     after : Bool → Check (List Token) → Outcome
-    after partial c = elim c [ pass more ↦ takeLines partial room (suc n) more ls | refuse number ↦ refused number (line n) ]
+    after partial c = elim c [ pass more ↦ takeAll form partial room (suc n) more ls | refuse number ↦ refused number (line n) ]
 
     go : (c : Check (List Token))
-        → ((more : List Token) → (takeLines false room (suc n) more ls ≡ takeLines true room (suc n) more ls) ⊎
-        ((b : ℕ) × (takeLines false room (suc n) more ls ≡ refused 20 (byte b))))
+        → ((more : List Token) → (takeAll form false room (suc n) more ls ≡ takeAll form true room (suc n) more ls) ⊎
+        ((b : ℕ) × (takeAll form false room (suc n) more ls ≡ refused 20 (byte b))))
         → (after false c ≡ after true c) ⊎ ((b : ℕ) × (after false c ≡ refused 20 (byte b)))
     go (pass more) r = r more
     go (refuse number) r = inl refl
@@ -281,25 +292,27 @@ lines-modes room n ts (l ∷ ls) = go (takeLine room ts l) (λ more. lines-modes
 -- "the partial one only drops refusal 20"
 pub partial-drops-20 : PartialDrops20
 unfolding load
-partial-drops-20 room text = lines-modes room 1 [] (lines text)
+partial-drops-20 form room body = records-modes form room 1 [] (recordsIn form body)
 
--- the end's facts, of any lines
-full-lines : (room : Room) (n : ℕ) (ts : List Token) (ls : List (List ℕ)) (us : List Token) → takeLines false room n ts ls ≡ accepted us
+-- the end's facts, of any records
+full-records : (form : Form) (room : Room) (n : ℕ) (ts : List Token) (ls : List (List ℕ)) (us : List Token)
+    → takeAll form false room n ts ls ≡ accepted us
     → Finishes false room us
-unfolding takeLines
-full-lines room n ts [] us e = let (z, f) = finish-accepts false room ts us e in subst (Finishes false room) z f
-full-lines room n ts (l ∷ ls) us e = go (takeLine room ts l) e (λ more. full-lines room (suc n) more ls us)
+unfolding takeAll
+full-records form room n ts [] us e = let (z, f) = finish-accepts false room ts us e in subst (Finishes false room) z f
+full-records form room n ts (l ∷ ls) us e = go (takeOne form room ts l) e (λ more. full-records form room (suc n) more ls us)
   where
-    go : (c : Check (List Token)) → elim c [ pass more ↦ takeLines false room (suc n) more ls | refuse number ↦ refused number (line n) ] ≡
+    go : (c : Check (List Token))
+        → elim c [ pass more ↦ takeAll form false room (suc n) more ls | refuse number ↦ refused number (line n) ] ≡
         accepted us
-        → ((more : List Token) → takeLines false room (suc n) more ls ≡ accepted us → Finishes false room us) → Finishes false room us
+        → ((more : List Token) → takeAll form false room (suc n) more ls ≡ accepted us → Finishes false room us) → Finishes false room us
     go (pass more) k r = r more k
     go (refuse number) k r = absurd (accepted≢refused us number (line n) k)
 
 -- In full mode every byte has a one-byte token.
 pub full-is-full : FullIsFull
 unfolding load
-full-is-full room text ts e b h = go 1 [] (lines text) e
+full-is-full form room body ts e b h = go 1 [] (recordsIn form body) e
   where
-    go : (n : ℕ) (us : List Token) (ls : List (List ℕ)) → takeLines false room n us ls ≡ accepted ts → seen ts (b ∷ []) ≡ true
-    go n us ls k = missing-none ts 256 0 (full-lines room n us ls ts k .whole) b (omega arith) (omega arith)
+    go : (n : ℕ) (us : List Token) (ls : List (List ℕ)) → takeAll form false room n us ls ≡ accepted ts → seen ts (b ∷ []) ≡ true
+    go n us ls k = missing-none ts 256 0 (full-records form room n us ls ts k .whole) b (omega arith) (omega arith)

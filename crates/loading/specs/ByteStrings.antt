@@ -1,20 +1,21 @@
 -- The parts of a byte string are byte strings: lines, fields, and what a literal stands for. Assumes nothing.
-use mathlib.Core.Path.{_≡_, refl, subst}
+use mathlib.Core.Path.{_≡_, refl, _∙_, subst}
 use mathlib.Core.Bool.{Bool, true, false, not, _&&_, _||_, cond}
-use mathlib.Core.Option.{Option, none, some, bind}
+use mathlib.Core.Option.{Option, none, some, bind, orElse}
 use mathlib.Core.List.{List, [], _∷_, _++_}
 use Prim.Native.Nat.{ℕ, zero, suc, _+_, _-_, _/_, _%_, _<_}
 use native.Mathlib.Omega.{arith}
 use lib.Dec.{eqb, leb, ltb}
 use lib.ListN.{length, take, drop, getD}
-use borrow.Author.Tests.{leb-true, ltb-true}
+use borrow.Author.Tests.{leb-true, ltb-true, ltb-false}
 use Rattle.spec.specs.Lists.{all, Bytes}
 use Rattle.spec.specs.Check.{pass, given, need}
 use Rattle.spec.specs.Utf8.{_to_, within, utf8Of, blank}
-use Rattle.spec.specs.Digits.{hexRun}
+use Rattle.spec.specs.Digits.{hexRun, octalRun}
 use Rattle.spec.specs.Line.{lf, cr, lessCR, withLF, lastLine, linesAfter, lines, Fields, firstSpace, lastSpace, parted, placed, fields}
-use Rattle.spec.specs.Literal.{Piece, letters, lookUp, byteEscape, pointEscape, escaped, escape, plain, bad, piece, closed, pieceAt}
-use Rattle.spec.specs.Literal.{inside, quoted, readWith, read, literal}
+use Rattle.spec.specs.Literal.{Piece, Escapes, letters, lookUp, escaped, byteEscape, pointEscape, escape, moreLetters, octalEscape}
+use Rattle.spec.specs.Literal.{escape2, escapesOf, plain, bad, piece, closed, pieceAt, inside, quoted, readWith, read, literal}
+use Rattle.spec.specs.Load.{Form, vocabulary, recordsIn}
 use Rattle.laws.specs.Tests.{and-l, and-r}
 use Rattle.laws.specs.LiteralLaws.{hex-run-lt}
 use Rattle.loading.specs.Checks.{need-pass, given-pass}
@@ -65,9 +66,14 @@ after-bytes l (b ∷ s) h k = go (eqb b lf) (after-bytes [] s tt (k .1))
     go false p q = q
 
 -- the lines of a byte string are byte strings
-pub lines-bytes : (text : List ℕ) → Bytes text → AllBytes (lines text)
+lines-bytes : (text : List ℕ) → Bytes text → AllBytes (lines text)
 unfolding lines
 lines-bytes text h = after-bytes [] text tt h
+
+-- so are the records of a source
+pub records-bytes : (form : Form) (body : List ℕ) → Bytes body → AllBytes (recordsIn form body)
+unfolding recordsIn
+records-bytes (vocabulary edition) body h = lines-bytes body h
 
 -- ---- fields
 
@@ -121,10 +127,18 @@ letter-bytes (p ∷ ps) c bs h e = go (eqb c (p .0)) e (λ k. letter-bytes ps c 
     go true e k = let z : p .1 ∷ [] ≡ bs = cc in subst Bytes z (ltb-true (p .1) 256 (and-l (ltb (p .1) 256) _ h), tt)
     go false e k = k e
 
-pieces-bytes : (inB : Bool) (s : List ℕ) (p : Piece) → escape inB s ≡ some p → Bytes (p .bytes)
-unfolding escape byteEscape pointEscape all
-pieces-bytes inB [] p e = absurd (none≢some p e)
-pieces-bytes inB (c ∷ s) p e = x-first (eqb c 0x78) (eqb c 0x75) e
+-- a set of escapes that stand for bytes
+abbrev ToBytes : Escapes → Type 0
+ToBytes escapes = (inB : Bool) (s : List ℕ) (p : Piece) → escapes inB s ≡ some p → Bytes (p .bytes)
+
+-- a code point, unless it is refused
+point-or : (t : Bool) (v : ℕ) (bs : List ℕ) → cond t none (some (utf8Of v)) ≡ some bs → Bytes bs
+point-or true v bs e = absurd (none≢some bs e)
+point-or false v bs e = let z : utf8Of v ≡ bs = cc in subst Bytes z (utf8-bytes v)
+
+byte-escapes : ToBytes byteEscape
+unfolding byteEscape
+byte-escapes inB s p e = escape-of 3 (bind (hexRun 2 s) (λ v. some (cond inB (v ∷ []) (utf8Of v)))) p two e
   where
     two : (bs : List ℕ) → bind (hexRun 2 s) (λ v. some (cond inB (v ∷ []) (utf8Of v))) ≡ some bs → Bytes bs
     two bs e =
@@ -133,20 +147,72 @@ pieces-bytes inB (c ∷ s) p e = x-first (eqb c 0x78) (eqb c 0x75) e
         let z : cond inB (v ∷ []) (utf8Of v) ≡ bs = cc in
         subst Bytes z (bytes-cond inB (v ∷ []) (utf8Of v) (λ t. (omega arith, tt)) (λ t. utf8-bytes v))
 
-    four : (bs : List ℕ) → bind (hexRun 4 s) (λ v. cond (inB || within (0xD800 to 0xDFFF) v) none (some (utf8Of v))) ≡ some bs → Bytes bs
-    four bs e =
-        let (v, q, r) = bind-some (hexRun 4 s) (λ v. cond (inB || within (0xD800 to 0xDFFF) v) none (some (utf8Of v))) bs e in
-        at v (inB || within (0xD800 to 0xDFFF) v) r
-      where
-        at : (v : ℕ) (t : Bool) → cond t none (some (utf8Of v)) ≡ some bs → Bytes bs
-        at v true e = absurd (none≢some bs e)
-        at v false e = let z : utf8Of v ≡ bs = cc in subst Bytes z (utf8-bytes v)
+point-escapes : (n : ℕ) → ToBytes (pointEscape n)
+unfolding pointEscape
+point-escapes n inB s p e = escape-of (suc n) (bind (hexRun n s) points) p all e
+  where
+    refused : ℕ → Bool
+    refused v = inB || (within (0xD800 to 0xDFFF) v || ltb 0x10FFFF v)
 
-    x-first : (x u : Bool) → cond x (byteEscape inB s) (cond u (pointEscape inB s) (escaped 1 (lookUp letters c))) ≡ some p
+    points : ℕ → Option (List ℕ)
+    points v = cond (refused v) none (some (utf8Of v))
+
+    all : (bs : List ℕ) → bind (hexRun n s) points ≡ some bs → Bytes bs
+    all bs e = let (v, q, r) = bind-some (hexRun n s) points bs e in point-or (refused v) v bs r
+
+octal-escapes : ToBytes octalEscape
+unfolding octalEscape
+octal-escapes inB s p e =
+    escape-of (octalRun 3 s .count) (told inB (ltb 0xFF v)) p (λ bs. of inB (ltb 0xFF v) refl bs) e
+  where
+    v : ℕ
+    v = octalRun 3 s .value
+
+    told : Bool → Bool → Option (List ℕ)
+    told b t = cond (b && t) none (some (cond b (v ∷ []) (utf8Of v)))
+
+    of : (b t : Bool) → ltb 0xFF v ≡ t → (bs : List ℕ) → told b t ≡ some bs → Bytes bs
+    of true true h bs e = absurd (none≢some bs e)
+    of true false h bs e =
+        let k = ltb-false 0xFF v h in
+        let z : v ∷ [] ≡ bs = cc in
+        subst Bytes z (omega (arith, k), tt)
+    of false t h bs e = point-or false v bs e
+
+letter-escapes : (ps : List (ℕ × ℕ)) (c : ℕ) (p : Piece) → all (λ (p : ℕ × ℕ). ltb (p .1) 256) ps ≡ true
+    → escaped 1 (lookUp ps c) ≡ some p → Bytes (p .bytes)
+letter-escapes ps c p h e = escape-of 1 (lookUp ps c) p (λ bs k. letter-bytes ps c bs h k) e
+
+first-edition : ToBytes escape
+unfolding escape all
+first-edition inB [] p e = absurd (none≢some p e)
+first-edition inB (c ∷ s) p e = go (eqb c 0x78) (eqb c 0x75) e
+  where
+    go : (x u : Bool) → cond x (byteEscape inB s) (cond u (pointEscape 4 inB s) (escaped 1 (lookUp letters c))) ≡ some p
         → Bytes (p .bytes)
-    x-first true u e = escape-of 3 (bind (hexRun 2 s) (λ v. some (cond inB (v ∷ []) (utf8Of v)))) p two e
-    x-first false true e = escape-of 5 (bind (hexRun 4 s) (λ v. cond (inB || within (0xD800 to 0xDFFF) v) none (some (utf8Of v)))) p four e
-    x-first false false e = escape-of 1 (lookUp letters c) p (λ bs k. letter-bytes letters c bs refl k) e
+    go true u e = byte-escapes inB s p e
+    go false true e = point-escapes 4 inB s p e
+    go false false e = letter-escapes letters c p refl e
+
+second-edition : ToBytes escape2
+unfolding escape2 all orElse
+second-edition inB [] p e = absurd (none≢some p e)
+second-edition inB (c ∷ s) p e = go (within (0x30 to 0x37) c) (eqb c 0x55) (escaped 1 (lookUp moreLetters c)) refl e
+  where
+    go : (o u : Bool) (l : Option Piece) → escaped 1 (lookUp moreLetters c) ≡ l
+        → cond o (octalEscape inB (c ∷ s)) (cond u (pointEscape 8 inB s) (orElse l (escape inB (c ∷ s)))) ≡ some p → Bytes (p .bytes)
+    go true u l h e = octal-escapes inB (c ∷ s) p e
+    go false true l h e = point-escapes 8 inB s p e
+    go false false (some q) h e = letter-escapes moreLetters c p refl (h ∙ e)
+    go false false none h e = first-edition inB (c ∷ s) p e
+
+of-edition : (edition : ℕ) → ToBytes (escapesOf edition)
+unfolding escapesOf
+of-edition edition inB s p e = go (eqb edition 2) e
+  where
+    go : (t : Bool) → cond t escape2 escape inB s ≡ some p → Bytes (p .bytes)
+    go true e = second-edition inB s p e
+    go false e = first-edition inB s p e
 
 plain-bytes : (inB : Bool) (quote b : ℕ) (p : Piece) → b < 256 → plain inB quote b ≡ some p → Bytes (p .bytes)
 plain-bytes inB quote b p h e = go (eqb b quote || (inB && leb 0x80 b)) e
@@ -155,44 +221,47 @@ plain-bytes inB quote b p h e = go (eqb b quote || (inB && leb 0x80 b)) e
     go true e = absurd (none≢some p e)
     go false e = let z : record { bytes = b ∷ []; more = 0 } ≡ p = cc in subst (λ (q : Piece). Bytes (q .bytes)) z (h, tt)
 
-inside-bytes : (inB : Bool) (quote : ℕ) (s : List ℕ) (k : ℕ) → Bytes s → Bytes (inside escape inB quote s k .bytes)
-unfolding inside
-inside-bytes inB quote [] k h = tt
-inside-bytes inB quote (b ∷ s) (suc k) h = inside-bytes inB quote s k (h .1)
-inside-bytes inB quote (b ∷ s) zero h = go (pieceAt escape inB quote b s) (λ p e. one (eqb b 0x5C) p e)
-    (λ k. inside-bytes inB quote s k (h .1))
-  where
-    one : (t : Bool) (p : Piece) → cond t (escape inB s) (plain inB quote b) ≡ some p → Bytes (p .bytes)
-    one true p e = pieces-bytes inB s p e
-    one false p e = plain-bytes inB quote b p (h .0) e
+module _ (escapes : Escapes) (to-bytes : ToBytes escapes) where
+  inside-bytes : (inB : Bool) (quote : ℕ) (s : List ℕ) (k : ℕ) → Bytes s → Bytes (inside escapes inB quote s k .bytes)
+  unfolding inside
+  inside-bytes inB quote [] k h = tt
+  inside-bytes inB quote (b ∷ s) (suc k) h = inside-bytes inB quote s k (h .1)
+  inside-bytes inB quote (b ∷ s) zero h = go (pieceAt escapes inB quote b s) (λ p e. one (eqb b 0x5C) p e)
+      (λ k. inside-bytes inB quote s k (h .1))
+    where
+      one : (t : Bool) (p : Piece) → cond t (escapes inB s) (plain inB quote b) ≡ some p → Bytes (p .bytes)
+      one true p e = to-bytes inB s p e
+      one false p e = plain-bytes inB quote b p (h .0) e
 
-    go : (o : Option Piece) → ((p : Piece) → o ≡ some p → Bytes (p .bytes)) → ((k : ℕ) → Bytes (inside escape inB quote s k .bytes))
-        → Bytes (piece o (λ k. inside escape inB quote s k) .bytes)
-    go none a r = tt
-    go (some p) a r = bytes-append (p .bytes) (inside escape inB quote s (p .more) .bytes) (a p refl) (r (p .more))
+      go : (o : Option Piece) → ((p : Piece) → o ≡ some p → Bytes (p .bytes)) → ((k : ℕ) → Bytes (inside escapes inB quote s k .bytes))
+          → Bytes (piece o (λ k. inside escapes inB quote s k) .bytes)
+      go none a r = tt
+      go (some p) a r = bytes-append (p .bytes) (inside escapes inB quote s (p .more) .bytes) (a p refl) (r (p .more))
 
-quoted-bytes : (inB : Bool) (s : List ℕ) → Bytes s → Bytes (quoted escape inB s .bytes)
-unfolding quoted
-quoted-bytes inB s h = go (closed s)
-  where
-    go : (t : Bool) → Bytes (cond t (inside escape inB (getD s 0 0) (take (length s - 2) (drop 1 s)) 0) bad .bytes)
-    go true = inside-bytes inB (getD s 0 0) (take (length s - 2) (drop 1 s)) 0 (bytes-take (length s - 2) (drop 1 s) (bytes-drop 1 s h))
-    go false = tt
+  quoted-bytes : (inB : Bool) (s : List ℕ) → Bytes s → Bytes (quoted escapes inB s .bytes)
+  unfolding quoted
+  quoted-bytes inB s h = go (closed s)
+    where
+      go : (t : Bool) → Bytes (cond t (inside escapes inB (getD s 0 0) (take (length s - 2) (drop 1 s)) 0) bad .bytes)
+      go true = inside-bytes inB (getD s 0 0) (take (length s - 2) (drop 1 s)) 0 (bytes-take (length s - 2) (drop 1 s) (bytes-drop 1 s h))
+      go false = tt
 
-read-bytes : (s : List ℕ) → Bytes s → Bytes (read s .bytes)
-unfolding read readWith
-read-bytes [] h = tt
-read-bytes (b ∷ s) h = go (eqb b 0x62)
-  where
-    go : (t : Bool) → Bytes (cond t (quoted escape true s) (quoted escape false (b ∷ s)) .bytes)
-    go true = quoted-bytes true s (h .1)
-    go false = quoted-bytes false (b ∷ s) h
+  read-bytes : (s : List ℕ) → Bytes s → Bytes (readWith escapes s .bytes)
+  unfolding readWith
+  read-bytes [] h = tt
+  read-bytes (b ∷ s) h = go (eqb b 0x62)
+    where
+      go : (t : Bool) → Bytes (cond t (quoted escapes true s) (quoted escapes false (b ∷ s)) .bytes)
+      go true = quoted-bytes true s (h .1)
+      go false = quoted-bytes false (b ∷ s) h
 
 -- what a literal stands for is a byte string
-pub literal-bytes : (s bs : List ℕ) → literal s ≡ some bs → Bytes s → Bytes bs
-unfolding literal
-literal-bytes s bs e h = go (read s .good) e
+pub literal-bytes : (edition : ℕ) (s bs : List ℕ) → literal edition s ≡ some bs → Bytes s → Bytes bs
+unfolding literal read
+literal-bytes edition s bs e h = go (readWith (escapesOf edition) s .good) e
   where
-    go : (t : Bool) → cond t (some (read s .bytes)) none ≡ some bs → Bytes bs
-    go true e = let z : read s .bytes ≡ bs = cc in subst Bytes z (read-bytes s h)
+    go : (t : Bool) → cond t (some (readWith (escapesOf edition) s .bytes)) none ≡ some bs → Bytes bs
+    go true e =
+        let z : readWith (escapesOf edition) s .bytes ≡ bs = cc in
+        subst Bytes z (read-bytes (escapesOf edition) (of-edition edition) s h)
     go false e = absurd (none≢some bs e)

@@ -1,10 +1,10 @@
 -- Numbers in digits, read from a place of a list: one law for each way a turn of a reader can go. Assumes nothing.
-use mathlib.Core.Path.{_≡_, refl, ap, ap₂, _∙_}
+use mathlib.Core.Path.{_≡_, refl, sym, ap, ap₂, _∙_, subst}
 use mathlib.Core.Bool.{Bool, true, false, _&&_, cond, false≢true}
 use mathlib.Core.Option.{Option, none, some, bind}
 use mathlib.Core.List.{List, [], _∷_}
 use Prim.Native.Nat.{ℕ, suc, _+_, _*_, _-_, _/_, _%_, _^_, _≤_, _<_}
-use native.Mathlib.Nat.{le-of-eq, le-trans, pow-le-pow-right}
+use native.Mathlib.Nat.{add-zero, le-of-eq, le-trans, pow-le-pow-right}
 use native.Mathlib.Numerals.{add-one}
 use native.Mathlib.Omega.{arith}
 use lib.ListN.{length, take, drop, getD, length-drop, drop-of-length-le}
@@ -13,8 +13,9 @@ use lib.Bits.{bitOr}
 use lib.Dec.{eqb, leb}
 use borrow.Author.Tests.{le-leb, lt-leb, eqb-true}
 use Rattle.spec.specs.Utf8.{_to_, within}
-use Rattle.spec.specs.Digits.{digit, digitsAfter, atMost, digits, hexDigit, hexAfter}
+use Rattle.spec.specs.Digits.{digit, digitsAfter, atMost, digits, hexDigit, hexAfter, octalDigit, Octal, octalAfter, octalRun}
 use Rattle.laws.specs.Tests.{allBelow, below}
+use Rattle.laws.specs.LiteralLaws.{octal-some, octal-none, octal-count, octal-digits-lt, octal-run-lt}
 
 -- ── Parts ────────────────────────────────────────────────────────────
 
@@ -147,23 +148,24 @@ module _ (b : ℕ) (byte : b < 256) where
   pub hex-some : isCode b ≡ true → {v : ℕ} → v ≡ hexValue b → hexDigit b ≡ some v
   hex-some h e = by-code b byte ∙ rw (h, e)
 
+-- one digit is left, and others
+suc-left : (count i : ℕ) → i < count → count - i ≡ suc (count - (i + 1))
+suc-left count i h = omega arith
+
 -- a run read up to the place i, with the value v so far
 module _ (s : List ℕ) (count i v : ℕ) (more : i < count) where
-  suc-left : count - i ≡ suc (count - (i + 1))
-  suc-left = omega arith
-
   pub hex-goes : (d : ℕ) → i < length s → hexDigit (getD s i 0) ≡ some d
       → hexAfter v (count - i) (drop i s) ≡ hexAfter (v * 16 + d) (count - (i + 1)) (drop (i + 1) s)
   unfolding hexAfter
-  hex-goes d h e = rw (suc-left, drop-cons s i 0 h, e, add-one)
+  hex-goes d h e = rw (suc-left count i more, drop-cons s i 0 h, e, add-one)
 
   pub hex-stops : i < length s → hexDigit (getD s i 0) ≡ none → hexAfter v (count - i) (drop i s) ≡ none
   unfolding hexAfter
-  hex-stops h e = rw (suc-left, drop-cons s i 0 h, e)
+  hex-stops h e = rw (suc-left count i more, drop-cons s i 0 h, e)
 
   pub hex-short : length s ≤ i → hexAfter v (count - i) (drop i s) ≡ none
   unfolding hexAfter
-  hex-short h = rw (suc-left, drop-of-length-le s h)
+  hex-short h = rw (suc-left count i more, drop-of-length-le s h)
 
 pub hex-ends : (s : List ℕ) (count i v : ℕ) → count ≤ i → hexAfter v (count - i) s ≡ some v
 unfolding hexAfter
@@ -172,3 +174,64 @@ hex-ends s count i v h = let e : count - i ≡ 0 = omega arith in rw e
 -- eight digits fit 32 bits
 pub hex-fits : (i v : ℕ) → i ≤ 8 → v < 16 ^ i → v < 4294967296
 hex-fits i v h k = le-trans k (pow-le-pow-right (omega arith) h)
+
+-- ── Octal ────────────────────────────────────────────────────────────
+
+pub octal-yes : {b d : ℕ} → 0x30 ≤ b → b ≤ 0x37 → d ≡ b - 0x30 → octalDigit b ≡ some d
+unfolding octalDigit
+octal-yes h k e = rw (in-range 0x30 0x37 h k, e)
+
+pub octal-below : {b : ℕ} → b < 0x30 → octalDigit b ≡ none
+unfolding octalDigit
+octal-below h = rw (below-range 0x30 0x37 h)
+
+pub octal-above : {b : ℕ} → 0x37 < b → octalDigit b ≡ none
+unfolding octalDigit
+octal-above h = rw (above-range 0x30 0x37 h)
+
+-- i digits are read, and the rest is o
+abbrev pub behind : ℕ → Octal → Octal
+behind i o = record { value = o .value; count = i + o .count }
+
+-- a run of at most `most` digits, read up to the place i, with the value v so far
+module _ (s : List ℕ) (most i v : ℕ) where
+  abbrev pub ahead : Octal
+  ahead = behind i (octalAfter v (most - i) (drop i s))
+
+  -- what a reader answers that stops here
+  abbrev stops : Type 0
+  stops = record { value = v; count = i } ≡ ahead
+
+  pub octal-ends : most ≤ i → stops
+  unfolding octalAfter
+  octal-ends h = let e : most - i ≡ 0 = omega arith in rw (e, add-zero)
+
+  module _ (more : i < most) where
+    pub octal-short : length s ≤ i → stops
+    unfolding octalAfter
+    octal-short h = rw (suc-left most i more, drop-of-length-le s h, add-zero)
+
+    module _ (h : i < length s) where
+      cons : octalAfter v (most - i) (drop i s) ≡ octalAfter v (suc (most - (i + 1))) (getD s i 0 ∷ drop (i + 1) s)
+      cons = rw (suc-left most i more, drop-cons s i 0 h, add-one)
+
+      pub octal-stops : octalDigit (getD s i 0) ≡ none → stops
+      octal-stops e = rw (cons, octal-none v (most - (i + 1)) (getD s i 0) (drop (i + 1) s) e, add-zero)
+
+pub octal-goes : (s : List ℕ) (most i v : ℕ) → i < most → i < length s → (d : ℕ) → octalDigit (getD s i 0) ≡ some d
+    → ahead s most (i + 1) (v * 8 + d) ≡ ahead s most i v
+octal-goes s most i v more h d e =
+    sym (ap (behind i) (cons s most i v more h ∙ octal-some v (most - (i + 1)) (getD s i 0) (drop (i + 1) s) d e)
+    ∙ rw (step (octalAfter (v * 8 + d) (most - (i + 1)) (drop (i + 1) s) .count)))
+  where
+    step : (k : ℕ) → i + suc k ≡ i + 1 + k
+    step k = omega arith
+
+-- three digits are below 512
+pub octal-fits : (i v : ℕ) → i ≤ 3 → v < 8 ^ i → v < 512
+octal-fits i v h k = le-trans k (pow-le-pow-right (omega arith) h)
+
+-- a run of at most three: its value is below 512, and 0 if there is no digit
+pub octal-three : (s : List ℕ)
+    → (octalRun 3 s .count ≤ 3) × (octalRun 3 s .value < 512) × (octalRun 3 s .count ≡ 0 → octalRun 3 s .value < 1)
+octal-three s = (octal-count 3 s, octal-run-lt 3 s, λ e. subst (λ (k : ℕ). octalRun 3 s .value < 8 ^ k) e (octal-digits-lt 3 s))

@@ -1,9 +1,9 @@
-// Numbers in decimal and hexadecimal digits. An answer is an enum, and a contract says by a definition of `spec` that it is the number
-// that document 01 says. Any bytes may be given.
+// Numbers in decimal, hexadecimal and octal digits. A contract says by a definition of `spec` that the answer is the number that the
+// documents say. Any bytes may be given.
 ghost use mathlib.Core.Path.{_≡_};
 ghost use Prim.Native.Nat.{_≤_};
-ghost use Rattle.spec.specs.Digits.{digits, hexDigit, hexRun};
-ghost use Rattle.numbers.specs.Answers.{numberOf};
+ghost use Rattle.spec.specs.Digits.{digits, hexDigit, hexRun, octalRun};
+ghost use Rattle.numbers.specs.Answers.{numberOf, octalOf};
 
 // A number, or that the bytes are none.
 pub enum Number {
@@ -74,4 +74,31 @@ pub fn hex_run(text: &[u8], count: usize) -> Number
         i += 1;
     }
     Number::Value(value)
+}
+
+// A number in octal digits, and how many digits it has.
+pub struct Octal {
+    pub value: u32,
+    pub count: usize,
+}
+
+// The octal digits at the start of `text`, as many as there are, but no more than `most`, which is at most three.
+pub fn octal_run(text: &[u8], most: usize) -> Octal
+    requires { ⌜ most ≤ 3 ⌝ }
+    ensures { λ r. ⌜ octalOf r ≡ octalRun most (now (text .entry)) ⌝ }
+{
+    let mut value: u32 = 0;
+    let mut count = 0;
+    while count < most {
+        if text.len() <= count {
+            return Octal { value, count };
+        }
+        let b = text[count];
+        match b {
+            b'0'..=b'7' => value = value * 8 + cells::u8_to_u32(b - b'0'),
+            _ => return Octal { value, count },
+        }
+        count += 1;
+    }
+    Octal { value, count }
 }

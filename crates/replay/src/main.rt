@@ -1,6 +1,6 @@
 // Runs the cases of standard input, one to a line, through the calls that a Rust or C program links, and writes what each answers: the
 // number and the report, then what was made. A case is a letter for what is asked, a space, and bytes in hexadecimal:
-//   L  load: 1 for partial, node room (2 bytes, the high one first), blob room (2), blocks of the table, blocks of the marks, the text
+//   L  load: 1 for partial and 2 for each edition above the first, node room (2 bytes, the high one first), blob room (2), blocks of the table, blocks of the marks, the text
 //   E  encode: room for ids, the input
 //   D, U, Y  decode to bytes, to text, to lossy text: room for bytes, ids of three bytes
 // Before all these stands a byte: 0, or 1, 2, 3 for memory with one cell too few of `single`, offsets, roots. After a load a sum over
@@ -16,7 +16,7 @@ use nodes::Node;
 ghost use Prim.Native.Nat.{_≤_, _<_};
 ghost use lib.ListN.{length};
 ghost use Rattle.spec.specs.Memory.{memory};
-ghost use Rattle.spec.specs.Load.{tableRoom, loadOn};
+ghost use Rattle.spec.specs.Load.{tableRoom, vocabulary, loadOn};
 ghost use Rattle.reports.specs.Report.{LoadReported};
 
 // The byte at a place, 0 past the end.
@@ -46,6 +46,7 @@ fn write_report(number: u32, count: u64, place: u64, value: u64) {
 // A load into memory for so many nodes.
 fn load_in(
     text: &[u8],
+    edition: u32,
     partial: bool,
     single: &mut [i32],
     offsets: &mut [u32],
@@ -58,7 +59,7 @@ fn load_in(
     report: &mut [u64; 6],
 ) -> u32
     requires { ⌜ room ≤ 4096 ⌝ }
-    ensures { λ r. ⌜ LoadReported (loadOn partial room
+    ensures { λ r. ⌜ LoadReported (loadOn (vocabulary edition) partial room
         (tableRoom (length (now (table .entry))) (length (now (used .entry))) (length (now («used_bases» .entry))))
         (memory (now (single .entry)) (now (offsets .entry)) (now (blob .entry)) (now (roots .entry)) (now (table .entry)))
         (now (text .entry))) r (now (report .exit))
@@ -75,6 +76,7 @@ fn load_in(
     let mut nodes = [node; 4096];
     rwkv_tokenizer::rwkv_load(
         text,
+        edition,
         partial,
         single,
         offsets,
@@ -91,6 +93,7 @@ fn load_in(
 // A load with so many nodes, and blocks of the marks.
 fn load(
     text: &[u8],
+    edition: u32,
     partial: bool,
     single: &mut [i32],
     offsets: &mut [u32],
@@ -107,6 +110,7 @@ fn load(
     let mut used_bases = [0u64; 64];
     load_in(
         text,
+        edition,
         partial,
         single,
         offsets,
@@ -123,6 +127,7 @@ fn load(
 // A load, and a sum over the whole of what it was given.
 fn load_all(
     text: &[u8],
+    edition: u32,
     partial: bool,
     single: &mut [i32],
     offsets: &mut [u32],
@@ -137,6 +142,7 @@ fn load_all(
     let mut report = [0u64; 6];
     let number = load(
         text,
+        edition,
         partial,
         single,
         offsets,
@@ -166,13 +172,15 @@ fn load_case(
     table: &mut [u64],
 ) -> u32 {
     let text = cells::smaller(7, case.len());
+    let mode = one(case, 0);
     let room = cells::smaller(256 * one(case, 1) + one(case, 2), 4096);
     let blob_room = cells::smaller(256 * one(case, 3) + one(case, 4), blob.len());
     let words = cells::smaller(256 * one(case, 5), table.len());
     let blocks = cells::smaller(one(case, 6), 16);
     load_all(
         &case[text..],
-        one(case, 0) == 1,
+        1 + mode as u32 / 2,
+        mode % 2 == 1,
         single,
         offsets,
         &mut blob[..blob_room],
@@ -403,7 +411,7 @@ fn run(input: &mut [u8]) {
     let mut blob = [0u8; 4096];
     let mut roots = [0u64; 65536];
     let mut table = [0u64; 4096];
-    let mut counts = [0u64; 30];
+    let mut counts = [0u64; 35];
     all_cases(
         &input[..n],
         &mut bytes,

@@ -14,7 +14,7 @@ use Rattle.spec.specs.Digits.{digits}
 use Rattle.spec.specs.Line.{Fields, fields, parted}
 use Rattle.spec.specs.Literal.{read, literal}
 use Rattle.spec.specs.Token.{Token}
-use Rattle.spec.specs.Load.{idRule, lengthRule, readToken, readFields, readLine}
+use Rattle.spec.specs.Load.{idRule, lengthRule, readToken, readFields, readLine, Form, vocabulary, reading}
 use Rattle.loading.specs.Checks.{need-pass}
 use Rattle.literal.specs.Answers.{stored}
 use Rattle.source.specs.SourceAnswers.{unless}
@@ -49,13 +49,13 @@ module _ {B : Type 0} (n : ℕ) (o : Option ℕ) (k : ℕ → Check B) where
 
 -- ---- 12 to 15
 
-module _ (part : List ℕ) (wanted id : ℕ) where
+module _ (edition : ℕ) (part : List ℕ) (wanted id : ℕ) where
   abbrev rest : List ℕ → Check Token
   rest bytes = lengthRule wanted (record { id = id; bytes = bytes })
 
-  pub literal-bad : none ≡ Option·map length (literal part) → refuse 12 ≡ given 12 (literal part) rest
+  pub literal-bad : none ≡ Option·map length (literal edition part) → refuse 12 ≡ given 12 (literal edition part) rest
   unfolding given
-  literal-bad e = go (literal part) e
+  literal-bad e = go (literal edition part) e
     where
       go : (o : Option (List ℕ)) → none ≡ Option·map length o → refuse 12 ≡ given 12 o rest
       go none q = refl
@@ -64,33 +64,33 @@ module _ (part : List ℕ) (wanted id : ℕ) where
   -- the bytes of a good literal, and how many
   record Good (n : ℕ) : Type 0 where
     bytes : List ℕ
-    is : literal part ≡ some bytes
-    read-is : read part .bytes ≡ bytes
+    is : literal edition part ≡ some bytes
+    read-is : read edition part .bytes ≡ bytes
     count : length bytes ≡ n
 
-  good : (n : ℕ) → some n ≡ Option·map length (literal part) → Good n
+  good : (n : ℕ) → some n ≡ Option·map length (literal edition part) → Good n
   unfolding literal
-  good n e = go (read part .good) refl e
+  good n e = go (read edition part .good) refl e
     where
-      go : (b : Bool) → read part .good ≡ b → some n ≡ Option·map length (cond b (some (read part .bytes)) none) → Good n
+      go : (b : Bool) → read edition part .good ≡ b → some n ≡ Option·map length (cond b (some (read edition part .bytes)) none) → Good n
       go true p q = record {
-        bytes = read part .bytes;
-        is = ap (λ (c : Bool). cond c (some (read part .bytes)) none) p;
+        bytes = read edition part .bytes;
+        is = ap (λ (c : Bool). cond c (some (read edition part .bytes)) none) p;
         read-is = refl;
-        count = (let z : n ≡ length (read part .bytes) = cc in sym z);
+        count = (let z : n ≡ length (read edition part .bytes) = cc in sym z);
       }
       go false p q = let z : _≡_ {A = ℕ} 0 1 = cc in absurd (omega arith)
 
-  module _ (n : ℕ) (e : some n ≡ Option·map length (literal part)) (r : ℕ)
+  module _ (n : ℕ) (e : some n ≡ Option·map length (literal edition part)) (r : ℕ)
       (rule : (t : Token) → length (t .bytes) ≡ n → lengthRule wanted t ≡ unless r (pass t)) where
     abbrev t : Token
     t = record { id = id; bytes = good n e .bytes }
 
-    whole-is : given 12 (literal part) rest ≡ unless r (pass t)
+    whole-is : given 12 (literal edition part) rest ≡ unless r (pass t)
     unfolding given
     whole-is = ap (λ (o : Option (List ℕ)). given 12 o rest) (good n e .is) ∙ rule t (good n e .count)
 
-    pub literal-refused : (r ≡ 0 → ⊥) → refuse r ≡ given 12 (literal part) rest
+    pub literal-refused : (r ≡ 0 → ⊥) → refuse r ≡ given 12 (literal edition part) rest
     literal-refused h = sym (whole-is ∙ unless-fails r (pass t) h)
 
     module _ (z : r ≡ 0) where
@@ -107,8 +107,8 @@ module _ (part : List ℕ) (wanted id : ℕ) where
           let k = good n e .count in
           omega arith
 
-      pub literal-found : (cells cells′ : List ℕ) → 255 ≤ length cells → cells′ ≡ stored (read part .bytes) cells
-          → pass (record { id = id; bytes = take n cells′ }) ≡ given 12 (literal part) rest
+      pub literal-found : (cells cells′ : List ℕ) → 255 ≤ length cells → cells′ ≡ stored (read edition part .bytes) cells
+          → pass (record { id = id; bytes = take n cells′ }) ≡ given 12 (literal edition part) rest
       literal-found cells cells′ long q =
           let bs : List ℕ = good n e .bytes in
           let k = good n e .count in
@@ -121,12 +121,12 @@ module _ (part : List ℕ) (wanted id : ℕ) where
 
 -- ---- 11 to 15
 
-module _ (line : List ℕ) (first last id : ℕ) where
+module _ (edition : ℕ) (line : List ℕ) (first last id : ℕ) where
   abbrev f : Fields
   f = parted first last line
 
   abbrev tail-of : ℕ → Check Token
-  tail-of wanted = given 12 (literal (f .literal)) (λ bytes. lengthRule wanted (record { id = id; bytes = bytes }))
+  tail-of wanted = given 12 (literal edition (f .literal)) (λ bytes. lengthRule wanted (record { id = id; bytes = bytes }))
 
   -- the part behind the last space
   abbrev end-part : List ℕ
@@ -141,61 +141,70 @@ module _ (line : List ℕ) (first last id : ℕ) where
   pub at-literal : take (last - (first + 1)) (drop (first + 1) line) ≡ f .literal
   at-literal = let p : first + 1 ≡ suc first = omega arith in ap (λ (n : ℕ). take (last - n) (drop n line)) p
 
-  pub length-bad : refuse 11 ≡ given 11 (digits 18446744073709551615 end-part) pass → refuse 11 ≡ readToken f id
+  pub length-bad : refuse 11 ≡ given 11 (digits 18446744073709551615 end-part) pass → refuse 11 ≡ readToken edition f id
   unfolding readToken
   length-bad e = given-not 11 (digits 18446744073709551615 end-part) tail-of e
       ∙ ap (λ (x : List ℕ). given 11 (digits 18446744073709551615 x) tail-of) at-length
 
   pub length-read : (wanted : ℕ) → pass wanted ≡ given 11 (digits 18446744073709551615 end-part) pass
       → (c : Check Token)
-      → c ≡ given 12 (literal (take (last - (first + 1)) (drop (first + 1) line)))
+      → c ≡ given 12 (literal edition (take (last - (first + 1)) (drop (first + 1) line)))
       (λ bytes. lengthRule wanted (record { id = id; bytes = bytes }))
-      → c ≡ readToken f id
+      → c ≡ readToken edition f id
   unfolding readToken
   length-read wanted e c q =
-      q ∙ ap (λ (x : List ℕ). given 12 (literal x) (λ bytes. lengthRule wanted (record { id = id; bytes = bytes }))) at-literal
+      q ∙ ap (λ (x : List ℕ). given 12 (literal edition x) (λ bytes. lengthRule wanted (record { id = id; bytes = bytes }))) at-literal
       ∙ sym (given-is 11 (digits 18446744073709551615 end-part) tail-of wanted e)
       ∙ ap (λ (x : List ℕ). given 11 (digits 18446744073709551615 x) tail-of) at-length
 
 -- ---- 6 to 15
 
-module _ (previous : ℕ) (f : Fields) where
+module _ (edition previous : ℕ) (f : Fields) where
   abbrev behind : ℕ → Check Token
-  behind id = need 7 (leb id 65535) (idRule previous id (readToken f id))
+  behind id = need 7 (leb id 65535) (idRule previous id (readToken edition f id))
 
-  pub id-bad : refuse 6 ≡ given 6 (digits 4294967295 (f .id)) pass → refuse 6 ≡ readFields previous f
+  pub id-bad : refuse 6 ≡ given 6 (digits 4294967295 (f .id)) pass → refuse 6 ≡ readFields edition previous f
   unfolding readFields
   id-bad e = given-not 6 (digits 4294967295 (f .id)) behind e
 
   module _ (id : ℕ) (e : pass id ≡ given 6 (digits 4294967295 (f .id)) pass) where
-    reads : readFields previous f ≡ behind id
+    reads : readFields edition previous f ≡ behind id
     unfolding readFields
     reads = given-is 6 (digits 4294967295 (f .id)) behind id e
 
-    pub id-large : 65535 < id → refuse 7 ≡ readFields previous f
-    id-large h = sym (reads ∙ ap (λ (b : Bool). need 7 b (idRule previous id (readToken f id))) (lt-leb id 65535 h) ∙ (unfold need in refl))
+    pub id-large : 65535 < id → refuse 7 ≡ readFields edition previous f
+    id-large h = sym (reads ∙ ap (λ (b : Bool). need 7 b (idRule previous id (readToken edition f id))) (lt-leb id 65535 h)
+        ∙ (unfold need in refl))
 
     module _ (h : id ≤ 65535) where
-      small : readFields previous f ≡ idRule previous id (readToken f id)
-      small = reads ∙ ap (λ (b : Bool). need 7 b (idRule previous id (readToken f id))) (le-leb id 65535 h) ∙ (unfold need in refl)
+      small : readFields edition previous f ≡ idRule previous id (readToken edition f id)
+      small = reads ∙ ap (λ (b : Bool). need 7 b (idRule previous id (readToken edition f id))) (le-leb id 65535 h) ∙ (unfold need in refl)
 
       module _ (short r : ℕ) (is : short ≡ id) (rule : (c : Check Token) → idRule previous short c ≡ unless r c) where
-        ruled : readFields previous f ≡ unless r (readToken f id)
-        ruled = small ∙ ap (λ (x : ℕ). idRule previous x (readToken f id)) (sym is) ∙ rule (readToken f id)
+        ruled : readFields edition previous f ≡ unless r (readToken edition f id)
+        ruled = small ∙ ap (λ (x : ℕ). idRule previous x (readToken edition f id)) (sym is) ∙ rule (readToken edition f id)
 
-        pub id-refused : (r ≡ 0 → ⊥) → refuse r ≡ readFields previous f
-        id-refused k = sym (ruled ∙ unless-fails r (readToken f id) k)
+        pub id-refused : (r ≡ 0 → ⊥) → refuse r ≡ readFields edition previous f
+        id-refused k = sym (ruled ∙ unless-fails r (readToken edition f id) k)
 
-        pub id-read : r ≡ 0 → (c : Check Token) → c ≡ readToken f short → c ≡ readFields previous f
-        id-read k c q = q ∙ ap (readToken f) is ∙ sym (ruled ∙ unless-goes r (readToken f id) k)
+        pub id-read : r ≡ 0 → (c : Check Token) → c ≡ readToken edition f short → c ≡ readFields edition previous f
+        id-read k c q = q ∙ ap (readToken edition f) is ∙ sym (ruled ∙ unless-goes r (readToken edition f id) k)
 
 -- ---- 3 to 15
 
-module _ (previous : ℕ) (line : List ℕ) where
-  pub fields-refused : (n : ℕ) → refuse n ≡ fields line → refuse n ≡ readLine previous line
+module _ (edition previous : ℕ) (line : List ℕ) where
+  pub fields-refused : (n : ℕ) → refuse n ≡ fields line → refuse n ≡ readLine edition previous line
   unfolding readLine andThen
-  fields-refused n e = ap (λ (c : Check Fields). andThen c (readFields previous)) e
+  fields-refused n e = ap (λ (c : Check Fields). andThen c (readFields edition previous)) e
 
-  pub fields-read : (g : Fields) → pass g ≡ fields line → (c : Check Token) → c ≡ readFields previous g → c ≡ readLine previous line
+  pub fields-read : (g : Fields) → pass g ≡ fields line → (c : Check Token) → c ≡ readFields edition previous g → c
+      ≡ readLine edition previous line
   unfolding readLine andThen
-  fields-read g e c q = q ∙ ap (λ (d : Check Fields). andThen d (readFields previous)) e
+  fields-read g e c q = q ∙ ap (λ (d : Check Fields). andThen d (readFields edition previous)) e
+
+-- ---- a record
+
+pub record-read : (form : Form) (edition previous : ℕ) (r : List ℕ) → form ≡ vocabulary edition
+    → readLine edition previous r ≡ reading form previous r
+unfolding reading
+record-read form edition previous r e = sym (ap (λ (f : Form). reading f previous r) e)

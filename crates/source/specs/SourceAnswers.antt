@@ -1,18 +1,36 @@
 -- What the answers of `source` mean, in the terms of `spec`. Assumes nothing.
-use mathlib.Core.Bool.{Bool, true, false}
-use mathlib.Core.Option.{Option, none, some}
+use mathlib.Core.Bool.{Bool, _||_, cond}
 use mathlib.Core.List.{List}
 use Prim.Native.Nat.{ℕ, _≤_, zero, suc}
+use lib.Dec.{eqb}
 use lib.ListN.{take}
 use Rattle.spec.specs.Check.{Check, pass, refuse}
 use Rattle.spec.specs.Token.{Token}
-use Rattle.spec.specs.Load.{nowhere, line, offset, byte}
+use Rattle.spec.specs.Load.{vocabulary, nowhere, line, offset, byte, halts, goes}
 use Rattle.spec.specs.Load as spec
 use Rattle.source.specs.declared.read.Read.{Read}
 use Rattle.source.specs.declared.read.Read.the-variants as Read
+use Rattle.source.specs.declared.Form.{Form}
+use Rattle.source.specs.declared.Form.the-variants as Form
 use Rattle.source.specs.declared.Place.{Place}
 use Rattle.source.specs.declared.Place.the-variants as Place
-use Rattle.source.specs.declared.LoadRefusal.{LoadRefusal}
+use Rattle.source.specs.declared.Start.{Start}
+
+-- ---- a form
+
+-- the form of a source; an edition that there is not is 0
+abbrev pub formOf : Form → spec.Form
+formOf Form.Edition1 = vocabulary 1
+formOf Form.Edition2 = vocabulary 2
+formOf Form.NoEdition = vocabulary 0
+
+-- the number of an edition that there is, else 0
+abbrev pub known : ℕ → ℕ
+known edition = cond (eqb edition 1 || eqb edition 2) edition 0
+
+-- not: "any edition but 1 and 2"
+abbrev pub isEdition : spec.Form → Bool
+isEdition (vocabulary edition) = eqb edition 1 || eqb edition 2
 
 -- ---- a refusal
 
@@ -23,13 +41,16 @@ placeOf (Place.Line n) = line n
 placeOf (Place.Offset n) = offset n
 placeOf (Place.Byte b) = byte b
 
--- 1 where the memory is too short, then 2 where the text is bad; number 0 where it is neither
-abbrev pub earlyOf : Bool → Option ℕ → LoadRefusal
-earlyOf true o = record { number = 1; place = Place.Nowhere }
-earlyOf false (some i) = record { number = 2; place = Place.Offset i }
-earlyOf false none = record { number = 0; place = Place.Nowhere }
+-- a refusal of this number at this place, or what follows where the number is 0
+abbrev pub startsWith : ℕ → spec.Place → spec.Start → spec.Start
+startsWith zero place rest = rest
+startsWith (suc n) place rest = halts (suc n) place
 
--- ---- a line
+-- the start of a load of the source s
+abbrev pub startIs : List ℕ → Start → spec.Start
+startIs s st = startsWith (st .number) (placeOf (st .place)) (goes (st .plan .partial) (take (st .plan .end) s))
+
+-- ---- a record
 
 -- what follows, unless a rule before it failed with the number n
 abbrev pub unless : {A : Type 0} → ℕ → Check A → Check A

@@ -1,20 +1,22 @@
 -- The starred examples of document 01, "Examples on V and single lines": one table of theorems, a row each, by computation. Rows on V are
--- said of the entries' own definitions, number 1 and the order of refusals included. The last rows are not starred: the lengths of a
--- token, and document 02's first bad byte. An edit of a definition that changes what it says here is refused here. Assumes nothing.
+-- said of the entries' own definitions, number 1 and the order of refusals included. Document 01's texts are of edition 1. The last rows
+-- are not starred: the lengths of a token, and document 02's first bad byte and editions. An edit of a definition that changes what it
+-- says here is refused here. Assumes nothing.
 use mathlib.Core.Path.{_≡_, refl, ap, _∙_}
-use mathlib.Core.Bool.{Bool, true, false}
+use mathlib.Core.Bool.{Bool, true, false, _||_}
 use mathlib.Core.Option.{none, some}
 use mathlib.Core.List.{List, [], _∷_, _++_, append-nil}
 use Prim.Native.Nat.{ℕ, _-_}
 use native.Mathlib.Nat.{sub-self}
 use native.Mathlib.Omega.{arith}
+use lib.Dec.{eqb}
 use lib.ListN.{length, getD, replicate, drop-of-length-le}
 use Rattle.spec.specs.Lists.{over}
 use Rattle.spec.specs.Check.{pass, refuse, andThen, given, need}
 use Rattle.spec.specs.Utf8.{firstBad}
 use Rattle.spec.specs.Digits.{digits}
 use Rattle.spec.specs.Line.{lines, fields}
-use Rattle.spec.specs.Literal.{literal}
+use Rattle.spec.specs.Literal.{escape, escape2, escapesOf, literal}
 use Rattle.spec.specs.Token.{Token, seen}
 use Rattle.spec.specs.Trie.{nodeCount}
 use Rattle.spec.specs.Layout.{tableWords}
@@ -22,8 +24,9 @@ use Rattle.spec.specs.Scan.{done, failed, scanAt, scan, waiting, runAt, 
 use Rattle.spec.specs.Memory.{Memory, tooShort, padded, memoryOf, singleList, offsetList, blobBytes, rootList, tableList}
 use Rattle.spec.specs.Encode.{encoding, encodeAnswer, encodeOn}
 use Rattle.spec.specs.Decode.{decoding, decodeOutput, decodeOn}
-use Rattle.spec.specs.Load.{tableRoom, idRule, lengthRule, readToken, readFields, readLine, admit, lastId, takeLine, nowhere}
-use Rattle.spec.specs.Load.{offset, accepted, missing, finish, takeLines, load, countsOf, turnedDown, settled, loadOn}
+use Rattle.spec.specs.Load.{tableRoom, idRule, lengthRule, readToken, readFields, readLine, vocabulary, recordsIn, reading, admit}
+use Rattle.spec.specs.Load.{lastId, takeOne, nowhere, offset, accepted, missing, finish, takeAll, load, startOf, countsOf}
+use Rattle.spec.specs.Load.{turnedDown, settled, loadOn}
 use Rattle.spec.specs.Answer.{whole}
 use Rattle.spec.specs.Stream.{StreamRecord, openPhase, endedPhase, holding, stoppedAt, fresh, Call, add, end, callRefusal}
 use Rattle.spec.specs.Stream.{goesThrough, orElse, callOn}
@@ -43,9 +46,9 @@ vv =
     ∷ record { id = 4; bytes = 0x61 ∷ 0x62 ∷ 0x63 ∷ 0x64 ∷ [] } ∷ record { id = 5; bytes = 0x62 ∷ 0x63 ∷ [] } ∷ []
 
 -- V states these, with room for 5 nodes, 10 bytes and 512 words, and not one more
-v-states : load true (record { nodes = 5; blob = 10; table = 512 }) vText ≡ accepted vv
-unfolding load takeLines takeLine readLine readFields idRule readToken lengthRule admit lastId finish missing andThen given need
-    lines fields digits literal seen nodeCount blobBytes tableWords
+v-states : load (vocabulary 1) true (record { nodes = 5; blob = 10; table = 512 }) vText ≡ accepted vv
+unfolding load takeAll takeOne recordsIn reading readLine readFields idRule readToken lengthRule admit lastId finish missing andThen
+    given need lines fields digits literal seen nodeCount blobBytes tableWords
 v-states = refl
 
 v-counts : countsOf vv ≡ record { tokens = 5; nodes = 5; blob = 10; table = 512 }
@@ -90,15 +93,15 @@ module _ (m : Memory) (single : length (m .single) ≡ 256) (offsets : length (m
       )
 
   -- V loads: 5 tokens, 5 nodes, 10 blob bytes, 512 words
-  v-loads : loadOn true 5 (tableRoom 512 8 8) m vText ≡ record {
+  v-loads : loadOn (vocabulary 1) true 5 (tableRoom 512 8 8) m vText ≡ record {
     answer = record { number = 0; place = nowhere; counts = record { tokens = 5; nodes = 5; blob = 10; table = 512 } };
     memory = vMemory;
   }
-  unfolding loadOn settled
+  unfolding loadOn startOf settled
   v-loads =
-      rw (long, loadOn)
+      rw (long, startOf)
       (rw v-text
-      (ap (settled m) ((λ i. load true (record { nodes = 5; blob = blob i; table = v-room i }) vText) ∙ v-states)
+      (ap (settled m) ((λ i. load (vocabulary 1) true (record { nodes = 5; blob = blob i; table = v-room i }) vText) ∙ v-states)
       ∙ (λ i. record { answer = record { number = 0; place = nowhere; counts = v-counts i }; memory = left i })))
 
 -- Number 1 on this memory, once for all rows: what an entry makes of memory that is long enough.
@@ -248,17 +251,17 @@ decode-3-0 = decode-v _ _ ∙ refl
 -- ── Literals ─────────────────────────────────────────────────────────
 
 -- `'\x80'` is C2 80
-x80-in-string : literal (0x27 ∷ 0x5C ∷ 0x78 ∷ 0x38 ∷ 0x30 ∷ 0x27 ∷ []) ≡ some (0xC2 ∷ 0x80 ∷ [])
+x80-in-string : literal 1 (0x27 ∷ 0x5C ∷ 0x78 ∷ 0x38 ∷ 0x30 ∷ 0x27 ∷ []) ≡ some (0xC2 ∷ 0x80 ∷ [])
 unfolding literal
 x80-in-string = refl
 
 -- `b'\x80'` is 80
-x80-in-bytes : literal (0x62 ∷ 0x27 ∷ 0x5C ∷ 0x78 ∷ 0x38 ∷ 0x30 ∷ 0x27 ∷ []) ≡ some (0x80 ∷ [])
+x80-in-bytes : literal 1 (0x62 ∷ 0x27 ∷ 0x5C ∷ 0x78 ∷ 0x38 ∷ 0x30 ∷ 0x27 ∷ []) ≡ some (0x80 ∷ [])
 unfolding literal
 x80-in-bytes = refl
 
 -- `'\01'` is 00 31
-zero-then-one : literal (0x27 ∷ 0x5C ∷ 0x30 ∷ 0x31 ∷ 0x27 ∷ []) ≡ some (0x00 ∷ 0x31 ∷ [])
+zero-then-one : literal 1 (0x27 ∷ 0x5C ∷ 0x30 ∷ 0x31 ∷ 0x27 ∷ []) ≡ some (0x00 ∷ 0x31 ∷ [])
 unfolding literal
 zero-then-one = refl
 
@@ -282,25 +285,58 @@ length-256-declared-255 = refl
 
 -- ── The first bad byte ───────────────────────────────────────────────
 
--- Document 02, W-206, of a load into any memory that is long enough, in either mode and whatever the room. "From here on it is the offset
--- of the first, found as in decoding to text."
-module _ (m : Memory) (enough : tooShort m ≡ false) (partial : Bool) (nodes table : ℕ) where
+-- Document 02, W-206, of a load into any memory that is long enough, in either edition and mode and whatever the room. "From here on it is
+-- the offset of the first, found as in decoding to text."
+module _ (edition : ℕ) (known : (eqb edition 1 || eqb edition 2) ≡ true) (m : Memory) (enough : tooShort m ≡ false) (partial : Bool)
+    (nodes table : ℕ) where
   -- A, é, FF, A, 80: ill-formed at 3 and at 5
-  bad-at-two-places : loadOn partial nodes table m (0x41 ∷ 0xC3 ∷ 0xA9 ∷ 0xFF ∷ 0x41 ∷ 0x80 ∷ []) ≡ turnedDown 2 (offset 3) m
-  unfolding loadOn firstBad
-  bad-at-two-places = rw (enough, loadOn) refl
+  bad-at-two-places : loadOn (vocabulary edition) partial nodes table m (0x41 ∷ 0xC3 ∷ 0xA9 ∷ 0xFF ∷ 0x41 ∷ 0x80 ∷ [])
+      ≡ turnedDown 2 (offset 3) m
+  unfolding loadOn startOf firstBad
+  bad-at-two-places = rw (known, enough, startOf) refl
 
   -- A and two bytes of a character of three: where that character starts
-  last-character-cut : loadOn partial nodes table m (0x41 ∷ 0xE2 ∷ 0x82 ∷ []) ≡ turnedDown 2 (offset 1) m
-  unfolding loadOn firstBad
-  last-character-cut = rw (enough, loadOn) refl
+  last-character-cut : loadOn (vocabulary edition) partial nodes table m (0x41 ∷ 0xE2 ∷ 0x82 ∷ []) ≡ turnedDown 2 (offset 1) m
+  unfolding loadOn startOf firstBad
+  last-character-cut = rw (known, enough, startOf) refl
 
   -- E2 82 41: where the part starts, not the byte that breaks it off
-  character-broken-off : loadOn partial nodes table m (0xE2 ∷ 0x82 ∷ 0x41 ∷ []) ≡ turnedDown 2 (offset 0) m
-  unfolding loadOn firstBad
-  character-broken-off = rw (enough, loadOn) refl
+  character-broken-off : loadOn (vocabulary edition) partial nodes table m (0xE2 ∷ 0x82 ∷ 0x41 ∷ []) ≡ turnedDown 2 (offset 0) m
+  unfolding loadOn startOf firstBad
+  character-broken-off = rw (known, enough, startOf) refl
 
 -- 1 comes before 2, and nothing is said of where the text is bad
-short-before-bad : (m : Memory) → tooShort m ≡ true → loadOn true 0 0 m (0x41 ∷ 0xFF ∷ []) ≡ turnedDown 1 nowhere m
-unfolding loadOn
-short-before-bad m short = rw (short, loadOn) refl
+short-before-bad : (m : Memory) → tooShort m ≡ true → loadOn (vocabulary 1) true 0 0 m (0x41 ∷ 0xFF ∷ []) ≡ turnedDown 1 nowhere m
+unfolding loadOn startOf
+short-before-bad m short = rw (short, startOf) refl
+
+-- ── Editions ─────────────────────────────────────────────────────────
+
+-- Document 02, W-205: "It refuses any edition but 1 and 2 with 34, before number 1, changing nothing." Any memory and any text.
+module _ (m : Memory) (partial : Bool) (nodes table : ℕ) (text : List ℕ) where
+  edition-0 : loadOn (vocabulary 0) partial nodes table m text ≡ turnedDown 34 nowhere m
+  unfolding loadOn startOf
+  edition-0 = refl
+
+  edition-3 : loadOn (vocabulary 3) partial nodes table m text ≡ turnedDown 34 nowhere m
+  unfolding loadOn startOf
+  edition-3 = refl
+
+-- "files of edition 1 read as ever": the base's escapes
+edition-1 : escapesOf 1 ≡ escape
+unfolding escapesOf
+edition-1 = refl
+
+edition-2 : escapesOf 2 ≡ escape2
+unfolding escapesOf
+edition-2 = refl
+
+-- the line `1 '\01' 1` states the byte 1 in edition 2; in edition 1 it has two bytes, 14
+one-in-edition-2 : readLine 2 0 (0x31 ∷ 0x20 ∷ 0x27 ∷ 0x5C ∷ 0x30 ∷ 0x31 ∷ 0x27 ∷ 0x20 ∷ 0x31 ∷ [])
+    ≡ pass (record { id = 1; bytes = 0x01 ∷ [] })
+unfolding readLine readFields idRule readToken lengthRule andThen given need fields digits literal
+one-in-edition-2 = refl
+
+one-in-edition-1 : readLine 1 0 (0x31 ∷ 0x20 ∷ 0x27 ∷ 0x5C ∷ 0x30 ∷ 0x31 ∷ 0x27 ∷ 0x20 ∷ 0x31 ∷ []) ≡ refuse 14
+unfolding readLine readFields idRule readToken lengthRule andThen given need fields digits literal
+one-in-edition-1 = refl

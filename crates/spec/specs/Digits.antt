@@ -1,4 +1,4 @@
--- Numbers in decimal and in hexadecimal digits. A byte string is a list of numbers. Assumes nothing.
+-- Numbers in decimal, hexadecimal and octal digits. A byte string is a list of numbers. Assumes nothing.
 use mathlib.Core.Bool.{cond}
 use mathlib.Core.Option.{Option, none, some, bind}
 use mathlib.Core.List.{List, [], _∷_}
@@ -47,3 +47,32 @@ hexAfter v (suc n) (b ∷ s) = bind (hexDigit b) (λ d. hexAfter (v * 16 + d) n 
 -- the value of a run of n hexadecimal digits at the start of s
 abbrev pub hexRun : ℕ → List ℕ → Option ℕ
 hexRun n s = hexAfter 0 n s
+
+-- ── Octal ────────────────────────────────────────────────────────────
+
+-- the value of an octal digit: `0` to `7`
+unfoldable pub octalDigit : ℕ → Option ℕ
+octalDigit b = cond (within (0x30 to 0x37) b) (some (b - 0x30)) none
+
+-- A number in octal digits, and how many digits it has.
+pub record Octal : Type 0 where
+  pub value : ℕ
+  pub count : ℕ
+
+-- one digit more in front
+abbrev pub oneMore : Octal → Octal
+oneMore o = record { value = o .value; count = suc (o .count) }
+
+-- the number that the digits of v and behind them the octal digits at the start of s, n at most, spell, and how many of s those are
+unfoldable pub octalAfter : ℕ → ℕ → List ℕ → Octal
+unfolding octalDigit
+octalAfter v zero s = record { value = v; count = 0 }
+octalAfter v (suc n) [] = record { value = v; count = 0 }
+octalAfter v (suc n) (b ∷ s) = elim (octalDigit b) [
+  | some d ↦ oneMore (octalAfter (v * 8 + d) n s)
+  | none ↦ record { value = v; count = 0 }
+]
+
+-- the octal digits at the start of s, as many as there are, n at most
+abbrev pub octalRun : ℕ → List ℕ → Octal
+octalRun n s = octalAfter 0 n s

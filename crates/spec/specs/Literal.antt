@@ -1,13 +1,14 @@
--- Literals: document 01, "Literals". A literal is read byte by byte; an escape is one step that says which bytes it stands for and
--- how far it reaches. The set of escapes is a parameter of the reading: `escape` is the one that the base fixes. Assumes nothing.
+-- Literals: document 01, "Literals", and document 02, W-205. A literal is read byte by byte; an escape is one step that says which bytes
+-- it stands for and how far it reaches. The set of escapes is a parameter of the reading: `escapesOf` gives that of an edition.
+-- Assumes nothing.
 use mathlib.Core.Bool.{Bool, true, false, _&&_, _||_, cond}
-use mathlib.Core.Option.{Option, none, some, bind}
+use mathlib.Core.Option.{Option, none, some, bind, orElse}
 use mathlib.Core.List.{List, [], _∷_, _++_}
 use Prim.Native.Nat.{ℕ, zero, suc, _+_, _-_}
-use lib.Dec.{eqb, leb}
+use lib.Dec.{eqb, leb, ltb}
 use lib.ListN.{length, take, drop, getD}
 use Rattle.spec.specs.Utf8.{_to_, within, utf8Of}
-use Rattle.spec.specs.Digits.{hexAfter, hexRun}
+use Rattle.spec.specs.Digits.{hexAfter, hexRun, octalAfter, octalRun}
 
 -- ── Bytes with a meaning ─────────────────────────────────────────────
 
@@ -62,19 +63,53 @@ unfoldable pub byteEscape : Escapes
 unfolding bind hexAfter utf8Of
 byteEscape inB s = escaped 3 (bind (hexRun 2 s) (λ v. some (cond inB (v ∷ []) (utf8Of v))))
 
--- "`u` and four, never in `b`, never a surrogate (D800 to DFFF)"
-unfoldable pub pointEscape : Escapes
+-- A code point in n hexadecimal digits. "`u` and four, never in `b`, never a surrogate (D800 to DFFF)"; "`\U` with eight", and "a `\U`
+-- that is in `b`, a surrogate or above 10FFFF hex, it is 12" (W-205): four digits don't come as far.
+unfoldable pub pointEscape : ℕ → Escapes
 unfolding bind hexAfter utf8Of
-pointEscape inB s = escaped 5 (bind (hexRun 4 s) (λ v. cond (inB || within (0xD800 to 0xDFFF) v) none (some (utf8Of v))))
+pointEscape n inB s =
+    escaped (suc n) (bind (hexRun n s) (λ v. cond (inB || (within (0xD800 to 0xDFFF) v || ltb 0x10FFFF v)) none (some (utf8Of v))))
 
--- The base's escapes: "The byte after a backslash decides", "Anything else is bad".
+-- Edition 1, the base's escapes: "The byte after a backslash decides", "Anything else is bad".
 unfoldable pub escape : Escapes
 unfolding letters lookUp byteEscape pointEscape
 escape inB [] = none
 escape inB (c ∷ s) =
     cond (eqb c 0x78) (byteEscape inB s)
-    (cond (eqb c 0x75) (pointEscape inB s)
+    (cond (eqb c 0x75) (pointEscape 4 inB s)
     (escaped 1 (lookUp letters c)))
+
+-- ---- edition 2 (W-205)
+
+-- "Edition 2 adds `\a` 7, `\b` 8, `\f` 12, `\v` 11": each letter and its byte
+unfoldable pub moreLetters : List (ℕ × ℕ)
+moreLetters =
+    (0x61, 0x07) ∷
+    (0x62, 0x08) ∷
+    (0x66, 0x0C) ∷
+    (0x76, 0x0B) ∷
+    []
+
+-- "one to three octal digits": "Octal is a code point in a string and a byte in `b`; above 377 octal in `b` .. it is 12"
+unfoldable pub octalEscape : Escapes
+unfolding octalAfter utf8Of
+octalEscape inB s =
+    let o = octalRun 3 s in
+    escaped (o .count) (cond (inB && ltb 0xFF (o .value)) none (some (cond inB (o .value ∷ []) (utf8Of (o .value)))))
+
+-- Edition 2: octal, `\U` and its letters, and else what edition 1 has.
+unfoldable pub escape2 : Escapes
+unfolding moreLetters lookUp pointEscape octalEscape escape orElse
+escape2 inB [] = none
+escape2 inB (c ∷ s) =
+    cond (within (0x30 to 0x37) c) (octalEscape inB (c ∷ s))
+    (cond (eqb c 0x55) (pointEscape 8 inB s)
+    (orElse (escaped 1 (lookUp moreLetters c)) (escape inB (c ∷ s))))
+
+-- The escapes of an edition. A load refuses "any edition but 1 and 2" before it reads a literal.
+unfoldable pub escapesOf : ℕ → Escapes
+unfolding escape escape2
+escapesOf edition = cond (eqb edition 2) escape2 escape
 
 -- "Inside, that quote bare is bad; other bytes stand for themselves, but in `b` literals only ASCII."
 abbrev pub plain : Bool → ℕ → ℕ → Option Piece
@@ -131,12 +166,12 @@ module _ (escapes : Escapes) where
 abbrev pub whole : Read → Option (List ℕ)
 whole r = cond (r .good) (some (r .bytes)) none
 
--- What the base reads of a literal.
-unfoldable pub read : List ℕ → Read
-unfolding readWith escape
-read s = readWith escape s
+-- What an edition reads of a literal.
+unfoldable pub read : ℕ → List ℕ → Read
+unfolding readWith escapesOf
+read edition s = readWith (escapesOf edition) s
 
 -- The bytes of a literal; none if it is bad (refusal 12).
-unfoldable pub literal : List ℕ → Option (List ℕ)
+unfoldable pub literal : ℕ → List ℕ → Option (List ℕ)
 unfolding read
-literal s = whole (read s)
+literal edition s = whole (read edition s)

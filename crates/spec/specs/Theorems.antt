@@ -20,26 +20,10 @@ use Rattle.spec.specs.Encode.{EncodeEnd, encoding}
 use Rattle.spec.specs.Encode as encode
 use Rattle.spec.specs.Decode.{lookup, decoding}
 use Rattle.spec.specs.Decode as decode
-use Rattle.spec.specs.Load.{Room, offset, byte, accepted, refused, load, turnedDown, loadOn}
+use Rattle.spec.specs.Load.{Form, Room, offset, byte, accepted, refused, load, goes, startOf, turnedDown, loadOn, vocabulary}
 use Rattle.spec.specs.Stream.{Call, callRefusal, fresh}
-use Rattle.spec.specs.Plain.{
-  Phase,
-  opened,
-  stopped,
-  ended,
-  Plain,
-  start,
-  Sure,
-  Fails,
-  Certain,
-  Reply,
-  Steps,
-  Follows,
-  handed,
-  repliesOn,
-  BytePieces,
-  recordOf,
-}
+use Rattle.spec.specs.Plain.{opened, stopped, ended, Plain, start, Sure, Fails, Certain, Reply, Steps, Follows, handed, repliesOn}
+use Rattle.spec.specs.Plain.{BytePieces, recordOf}
 
 -- ── Matching ─────────────────────────────────────────────────────────
 
@@ -112,33 +96,50 @@ DecodingFills = (m : Memory) (ts : List Token) → Loaded m ts → (ids : List �
 
 -- ── Loading ──────────────────────────────────────────────────────────
 
--- The tokens of an accepted text are a valid vocabulary.
+-- The tokens of an accepted source are a valid vocabulary.
 abbrev pub LoadsValid : Type 0
-LoadsValid = (partial : Bool) (room : Room) (text : List ℕ) → Bytes text → (ts : List Token) → load partial room text ≡ accepted ts
-    → Valid ts
+LoadsValid = (form : Form) (partial : Bool) (room : Room) (body : List ℕ) → Bytes body → (ts : List Token)
+    → load form partial room body ≡ accepted ts → Valid ts
 
--- An accepted load leaves loaded memory: from a text to the theorems on matching, encoding and decoding.
+-- An accepted load leaves loaded memory: from a source to the theorems on matching, encoding and decoding.
 abbrev pub LoadsLoaded : Type 0
-LoadsLoaded = (partial : Bool) (nodes table : ℕ) (m : Memory) (text : List ℕ) → Bytes text → table ≤ length (m .table)
-    → loadOn partial nodes table m text .answer .number ≡ 0
-    → (ts : List Token) × (load partial (record { nodes = nodes; blob = length (m .blob); table = table }) text ≡ accepted ts)
-    × Loaded (loadOn partial nodes table m text .memory) ts
+LoadsLoaded = (form : Form) (partial : Bool) (nodes table : ℕ) (m : Memory) (s : List ℕ) → Bytes s → table ≤ length (m .table)
+    → loadOn form partial nodes table m s .answer .number ≡ 0
+    → (mode : Bool) × (body : List ℕ) × (ts : List Token) × (startOf form partial m s ≡ goes mode body)
+    × (load form mode (record { nodes = nodes; blob = length (m .blob); table = table }) body ≡ accepted ts)
+    × Loaded (loadOn form partial nodes table m s .memory) ts
 
--- A text that is not UTF-8 is refused with 2 at "the offset of the first" bad byte (document 02, W-206): it lies in the text, no character
--- starts there, and all before it is UTF-8. Nothing has changed.
+-- an edition that there is
+abbrev pub Edition : ℕ → Type 0
+Edition edition = (edition ≡ 1) ⊎ (edition ≡ 2)
+
+-- A text of such an edition that is UTF-8 is read, all of it and in the mode asked for, where the memory is long enough.
+abbrev pub TextStarts : Type 0
+TextStarts = (edition : ℕ) (partial : Bool) (m : Memory) (text : List ℕ) → Edition edition → tooShort m ≡ false → wellFormed text ≡ true
+    → startOf (vocabulary edition) partial m text ≡ goes partial text
+
+-- No other text is read.
+abbrev pub TextGoes : Type 0
+TextGoes = (edition : ℕ) (partial : Bool) (m : Memory) (text : List ℕ) (mode : Bool) (body : List ℕ)
+    → startOf (vocabulary edition) partial m text ≡ goes mode body
+    → Edition edition × (tooShort m ≡ false) × (wellFormed text ≡ true) × (mode ≡ partial) × (body ≡ text)
+
+-- A text of either edition that is not UTF-8 is refused with 2 at "the offset of the first" bad byte (document 02, W-206): it lies in the
+-- text, no character starts there, and all before it is UTF-8. Nothing has changed.
 abbrev pub NamesFirstBad : Type 0
-NamesFirstBad = (partial : Bool) (nodes table : ℕ) (m : Memory) (text : List ℕ) → tooShort m ≡ false → wellFormed text ≡ false
-    → (k : ℕ) × (loadOn partial nodes table m text ≡ turnedDown 2 (offset k) m)
+NamesFirstBad = (edition : ℕ) (partial : Bool) (nodes table : ℕ) (m : Memory) (text : List ℕ) → Edition edition
+    → tooShort m ≡ false → wellFormed text ≡ false
+    → (k : ℕ) × (loadOn (vocabulary edition) partial nodes table m text ≡ turnedDown 2 (offset k) m)
     × (k < length text) × (isChar (stepOf (drop k text)) ≡ false) × (wellFormed (take k text) ≡ true)
 
 -- In full mode every byte has a one-byte token.
 abbrev pub FullIsFull : Type 0
-FullIsFull = (room : Room) (text : List ℕ) (ts : List Token) → load false room text ≡ accepted ts → Full ts
+FullIsFull = (form : Form) (room : Room) (body : List ℕ) (ts : List Token) → load form false room body ≡ accepted ts → Full ts
 
 -- "the partial one only drops refusal 20"
 abbrev pub PartialDrops20 : Type 0
-PartialDrops20 = (room : Room) (text : List ℕ)
-    → (load false room text ≡ load true room text) ⊎ ((b : ℕ) × (load false room text ≡ refused 20 (byte b)))
+PartialDrops20 = (form : Form) (room : Room) (body : List ℕ)
+    → (load form false room body ≡ load form true room body) ⊎ ((b : ℕ) × (load form false room body ≡ refused 20 (byte b)))
 
 -- Numbers fit their widths: at most 65,535 tokens, blob and nodes below 2^24, table words below 2^32.
 pub record Fits (ts : List Token) : Type 0 where

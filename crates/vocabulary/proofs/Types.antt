@@ -5,7 +5,9 @@ use Rattle.tokens.proofs.Pushed as PushedT
 use Rattle.ending.proofs.Finished as FinishedT
 use Rattle.answers.proofs.taking.Taking as TakingT
 use Rattle.source.proofs.Place as PlaceT
-use Rattle.source.proofs.LoadRefusal as RefusalT
+use Rattle.source.proofs.How as HowT
+use Rattle.source.proofs.Plan as PlanT
+use Rattle.source.proofs.Start as StartT
 use Rattle.answers.proofs.Load as LoadT
 
 module _ {M : Type 1} {𝓤 : URA M} {H : Heap 𝓤} {A : Atoms 𝓤} (W : Given 𝓤 H A) where
@@ -33,8 +35,14 @@ module _ {M : Type 1} {𝓤 : URA M} {H : Heap 𝓤} {A : Atoms 𝓤} (W : Given
   abbrev pub place : Plain 𝓤 H A PlaceT.the-row
   place = enum-plain 𝓤 H A W PlaceT.the-type PlaceT.Laws.the-laws PlaceT.Laws.the-plain tt
 
-  abbrev pub refusal : Plain 𝓤 H A RefusalT.the-row
-  refusal = struct-plain 𝓤 H A W RefusalT.the-type RefusalT.Laws.the-laws RefusalT.Laws.the-plain
+  abbrev pub how : Plain 𝓤 H A HowT.the-row
+  how = struct-plain 𝓤 H A W HowT.the-type HowT.Laws.the-laws HowT.Laws.the-plain
+
+  abbrev pub plan : Plain 𝓤 H A PlanT.the-row
+  plan = struct-plain 𝓤 H A W PlanT.the-type PlanT.Laws.the-laws PlanT.Laws.the-plain
+
+  abbrev pub begins : Plain 𝓤 H A StartT.the-row
+  begins = struct-plain 𝓤 H A W StartT.the-type StartT.Laws.the-laws StartT.Laws.the-plain
 
   abbrev pub answer : Plain 𝓤 H A LoadT.the-row
   answer = enum-plain 𝓤 H A W LoadT.the-type LoadT.Laws.the-laws LoadT.Laws.the-plain tt

@@ -1,25 +1,29 @@
-// A vocabulary text into the vocabulary memory, as `from_vocab_str` and `from_vocab_str_partial` of the Rust source. The memory is lent:
+// A source of records into the vocabulary memory; a vocabulary text of edition 1 as by the Rust's `from_vocab_str`. The memory is lent:
 // `single`, offsets, blob, roots and table, which a load fills or empties, and three runs of work memory, whose contents before and after
 // are anything: nodes, and the marks of taken slots and of used bases, 64 to a word.
 //
-// A load takes any slices. Number 1 and number 2 are tested before anything is written.
-pub mod lines;
+// A load takes any slices. What is refused before any record is refused before anything is written.
+pub mod records;
 
 ghost use mathlib.Core.Path.{_≡_};
 ghost use mathlib.Core.Bool.{true, false};
-ghost use lib.ListN.{length};
+ghost use Prim.Native.Nat.{_≤_};
+ghost use lib.ListN.{length, take};
 ghost use Rattle.spec.specs.Memory.{memory};
-ghost use Rattle.spec.specs.Load.{tableRoom, load, settled, loadOn};
+ghost use Rattle.spec.specs.Load.{tableRoom, vocabulary, load, startOf, settled, loadOn};
 ghost use Rattle.laws.specs.Reads.{LongEnough};
 ghost use Rattle.tokens.specs.Built.{roomFor};
-ghost use Rattle.answers.specs.Answers.{answerOf, loaded, WorkKept};
+ghost use Rattle.source.specs.SourceAnswers.{formOf};
+ghost use Rattle.answers.specs.Answers.{loaded, WorkKept};
 use answers::Load;
 use nodes::Node;
+use source::How;
+use source::Plan;
 
-// A load of UTF-8 text into memory that is long enough.
-fn load_text(
-    text: &[u8],
-    partial: bool,
+// A load of a source's records into memory that is long enough.
+fn load_records(
+    source: &[u8],
+    plan: Plan,
     single: &mut [i32],
     offsets: &mut [u32],
     blob: &mut [u8],
@@ -29,17 +33,27 @@ fn load_text(
     used: &mut [u64],
     used_bases: &mut [u64],
 ) -> Load
-    requires { ⌜ LongEnough (memory (now single) (now offsets) (now blob) (now roots) (now table)) ⌝ }
+    requires { ⌜ LongEnough (memory (now single) (now offsets) (now blob) (now roots) (now table)) × (plan .end ≤ length (now source)) ⌝ }
     ensures { λ r. ⌜ loaded r
         (memory (now (single .exit)) (now (offsets .exit)) (now (blob .exit)) (now (roots .exit)) (now (table .exit)))
         ≡ settled (memory (now (single .entry)) (now (offsets .entry)) (now (blob .entry)) (now (roots .entry)) (now (table .entry)))
-        (load partial (roomFor (now (nodes .entry)) (now (blob .entry))
+        (load (formOf (plan .form)) (plan .partial) (roomFor (now (nodes .entry)) (now (blob .entry))
         (tableRoom (length (now (table .entry))) (length (now (used .entry))) (length (now («used_bases» .entry)))))
-        (now (text .entry))) ⌝ }
+        (take (plan .end) (now (source .entry)))) ⌝ }
 {
     let begun = tokens::begin(single, offsets, blob, roots, table);
     let mut cells = [0u8; 255];
-    let taken = lines::take_lines(text, single, offsets, blob, roots, nodes, &mut cells, begun);
+    let taken = records::take_records(
+        source,
+        plan,
+        single,
+        offsets,
+        blob,
+        roots,
+        nodes,
+        &mut cells,
+        begun,
+    );
     if taken.number != 0 {
         return answers::refuse_line(
             taken.number,
@@ -53,7 +67,7 @@ fn load_text(
     }
     let st = taken.build;
     let end = builder::finish(
-        partial,
+        plan.partial,
         single,
         offsets,
         roots,
@@ -66,11 +80,12 @@ fn load_text(
     answers::settle(st, end, single, offsets, blob, roots, table)
 }
 
-// A load of any bytes, in partial or full mode. One thing is loose: what the work memory holds afterwards is anything, but after 1 and 2
-// what it was (and its lengths stay: a slice keeps its length by its type). `loadOn` gives all else; number 2 has the first bad offset.
-pub fn from_vocab_str_mode(
-    text: &[u8],
-    partial: bool,
+// A load of any bytes, as they are asked for. One thing is loose: what the work memory holds afterwards is anything, but what it was if the
+// start halts (and its lengths stay: a slice keeps its length by its type). `loadOn` gives all else. For a text this is the Rust's
+// `from_vocab_str_mode`.
+pub fn from_source(
+    source: &[u8],
+    how: How,
     single: &mut [i32],
     offsets: &mut [u32],
     blob: &mut [u8],
@@ -82,20 +97,23 @@ pub fn from_vocab_str_mode(
 ) -> Load
     ensures loads { λ r. ⌜ loaded r
         (memory (now (single .exit)) (now (offsets .exit)) (now (blob .exit)) (now (roots .exit)) (now (table .exit)))
-        ≡ loadOn partial (length (now (nodes .entry)))
+        ≡ loadOn (formOf (how .form)) (how .partial) (length (now (nodes .entry)))
         (tableRoom (length (now (table .entry))) (length (now (used .entry))) (length (now («used_bases» .entry))))
         (memory (now (single .entry)) (now (offsets .entry)) (now (blob .entry)) (now (roots .entry)) (now (table .entry)))
-        (now (text .entry)) ⌝ }
-    ensures work { λ r. ⌜ WorkKept (answerOf r .number) (now (nodes .entry)) (now (used .entry)) (now («used_bases» .entry))
+        (now (source .entry)) ⌝ }
+    ensures work { λ r. ⌜ WorkKept (startOf (formOf (how .form)) (how .partial)
+        (memory (now (single .entry)) (now (offsets .entry)) (now (blob .entry)) (now (roots .entry)) (now (table .entry)))
+        (now (source .entry)))
+        (now (nodes .entry)) (now (used .entry)) (now («used_bases» .entry))
         (now (nodes .exit)) (now (used .exit)) (now («used_bases» .exit)) ⌝ }
 {
-    let early = source::early_refusal(text, single, offsets, roots);
-    if early.number != 0 {
-        return answers::refused(early.number, early.place);
+    let start = source::start_of(source, how, single, offsets, roots);
+    if start.number != 0 {
+        return answers::refused(start.number, start.place);
     }
-    load_text(
-        text,
-        partial,
+    load_records(
+        source,
+        start.plan,
         single,
         offsets,
         blob,
@@ -107,7 +125,7 @@ pub fn from_vocab_str_mode(
     )
 }
 
-// A load in full mode: every byte must have a one-byte token.
+// A load of a text of edition 1 in full mode: every byte must have a one-byte token.
 pub fn from_vocab_str(
     text: &[u8],
     single: &mut [i32],
@@ -121,16 +139,20 @@ pub fn from_vocab_str(
 ) -> Load
     ensures loads { λ r. ⌜ loaded r
         (memory (now (single .exit)) (now (offsets .exit)) (now (blob .exit)) (now (roots .exit)) (now (table .exit)))
-        ≡ loadOn false (length (now (nodes .entry)))
+        ≡ loadOn (vocabulary 1) false (length (now (nodes .entry)))
         (tableRoom (length (now (table .entry))) (length (now (used .entry))) (length (now («used_bases» .entry))))
         (memory (now (single .entry)) (now (offsets .entry)) (now (blob .entry)) (now (roots .entry)) (now (table .entry)))
         (now (text .entry)) ⌝ }
-    ensures work { λ r. ⌜ WorkKept (answerOf r .number) (now (nodes .entry)) (now (used .entry)) (now («used_bases» .entry))
+    ensures work { λ r. ⌜ WorkKept (startOf (vocabulary 1) false
+        (memory (now (single .entry)) (now (offsets .entry)) (now (blob .entry)) (now (roots .entry)) (now (table .entry)))
+        (now (text .entry)))
+        (now (nodes .entry)) (now (used .entry)) (now («used_bases» .entry))
         (now (nodes .exit)) (now (used .exit)) (now («used_bases» .exit)) ⌝ }
 {
-    from_vocab_str_mode(
+    let how = source::text_of(1, false);
+    from_source(
         text,
-        false,
+        how,
         single,
         offsets,
         blob,
@@ -142,7 +164,7 @@ pub fn from_vocab_str(
     )
 }
 
-// A load in partial mode, which asks for no byte.
+// A load of a text of edition 1 in partial mode, which asks for no byte.
 pub fn from_vocab_str_partial(
     text: &[u8],
     single: &mut [i32],
@@ -156,16 +178,20 @@ pub fn from_vocab_str_partial(
 ) -> Load
     ensures loads { λ r. ⌜ loaded r
         (memory (now (single .exit)) (now (offsets .exit)) (now (blob .exit)) (now (roots .exit)) (now (table .exit)))
-        ≡ loadOn true (length (now (nodes .entry)))
+        ≡ loadOn (vocabulary 1) true (length (now (nodes .entry)))
         (tableRoom (length (now (table .entry))) (length (now (used .entry))) (length (now («used_bases» .entry))))
         (memory (now (single .entry)) (now (offsets .entry)) (now (blob .entry)) (now (roots .entry)) (now (table .entry)))
         (now (text .entry)) ⌝ }
-    ensures work { λ r. ⌜ WorkKept (answerOf r .number) (now (nodes .entry)) (now (used .entry)) (now («used_bases» .entry))
+    ensures work { λ r. ⌜ WorkKept (startOf (vocabulary 1) true
+        (memory (now (single .entry)) (now (offsets .entry)) (now (blob .entry)) (now (roots .entry)) (now (table .entry)))
+        (now (text .entry)))
+        (now (nodes .entry)) (now (used .entry)) (now («used_bases» .entry))
         (now (nodes .exit)) (now (used .exit)) (now («used_bases» .exit)) ⌝ }
 {
-    from_vocab_str_mode(
+    let how = source::text_of(1, true);
+    from_source(
         text,
-        true,
+        how,
         single,
         offsets,
         blob,

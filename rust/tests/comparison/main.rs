@@ -1,5 +1,6 @@
-//! Compares the library with the Rust crate that it was ported from. The environment variable RWKV_ORIGINAL names that crate's
-//! folder, RWKV_LARGE a large vocabulary's file; where the first is missing when this is built, the comparison is skipped.
+//! Compares the library with the Rust crate that it was ported from, and in edition 2, which that crate has not, with a reader of
+//! literals made from the documents. The environment variable RWKV_ORIGINAL names that crate's folder, RWKV_LARGE a large vocabulary's
+//! file; where the first is missing when this is built, the comparison is skipped.
 
 #[cfg(not(original))]
 fn main() {

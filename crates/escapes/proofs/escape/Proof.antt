@@ -81,7 +81,7 @@ returns-10 c =
     let args = c .before .before .before .before .before .before .args in
     let the-match = c .before .before .match in
     c .point-escape .ensures
-    ∙ ap (pointEscape (args .in-bytes)) (part-from 1 (args .rest .now))
+    ∙ ap (pointEscape 4 (args .in-bytes)) (part-from 1 (args .rest .now))
     ∙ sym (escape-letter _ _ _ (omega arith) (the-match .keys9))
 
 returns-11 : tie.Need-returns-11

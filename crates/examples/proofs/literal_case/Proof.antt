@@ -20,7 +20,7 @@ array-share-prefix-bytes c = search needs
 
 slice-aggregate-write-bytes : tie.Need-slice-aggregate-write-bytes
 slice-aggregate-write-bytes c =
-    let k = c .before .before .before .before .before .before .parse-python-literal-into .kept .1 .0 in
+    let k = c .before .before .before .before .before .before .parse-python-literal-into .kept .1 .1 .0 in
     sym (length-take-le _ _ (omega arith))
 
 write-bytes-requires : tie.Need-write-bytes-requires

@@ -5,7 +5,7 @@ use Prim.Native.Nat.{_-_, _≤_}
 use native.Mathlib.Omega.{arith}
 use borrow.Author.Needs.{needs}
 use lib.ListN.{length, drop, length-drop}
-use Rattle.spec.specs.Literal.{escape, inside}
+use Rattle.spec.specs.Literal.{escapesOf, inside}
 use Rattle.literal.specs.Answers.{left}
 use Rattle.numbers.proofs.Numbers.{part-from}
 use Rattle.literal.proofs.QuotedTurns.{here, bounds, goes-bad, goes-on, goes-end}
@@ -13,12 +13,13 @@ use Rattle.literal.proofs.inside.Statement.{statement}
 use Rattle.literal.proofs.inside.Tie as tie
 
 abbrev Inv-loop : tie.InvT-loop
-Inv-loop text quote in-bytes result₀ i₀ n₀ result i n =
+Inv-loop text quote in-bytes edition result₀ i₀ n₀ result i n =
     (n ≤ i) × (length result ≡ length result₀)
-    × (left result n (inside escape in-bytes quote (drop i text) 0) ≡ left result₀ 0 (inside escape in-bytes quote text 0))
+    × (left result n (inside (escapesOf edition) in-bytes quote (drop i text) 0)
+    ≡ left result₀ 0 (inside (escapesOf edition) in-bytes quote text 0))
 
 abbrev μ-loop : tie.MeasureT-loop
-μ-loop text quote in-bytes result₀ i₀ n₀ result i n = length text - i
+μ-loop text quote in-bytes edition result₀ i₀ n₀ result i n = length text - i
 
 loop-holds : tie.Need-loop-holds Inv-loop μ-loop
 loop-holds c = (omega arith, refl, refl)
@@ -53,8 +54,8 @@ add-i c =
     let piece-at = c .before .before .before .before .before .before .before .piece-at in
     let the-b = c .before .before .before .before .before .b in
     let a = args in
-    let e = here (a .in-bytes) (a .quote) (a .text .now) (loop .i) _ _ (piece-at .ensures) (the-b .given .1) in
-    let b = bounds (a .in-bytes) (a .quote) (a .text .now) (loop .i) _ e in
+    let e = here (escapesOf (a .edition)) (a .in-bytes) (a .quote) (a .text .now) (loop .i) _ _ (piece-at .ensures) (the-b .given .1) in
+    let b = bounds (a .edition) (a .in-bytes) (a .quote) (a .text .now) (loop .i) _ e in
     omega arith
 
 add-i-2 : tie.Need-add-i-2 Inv-loop μ-loop
@@ -64,8 +65,8 @@ add-i-2 c =
     let piece-at = c .before .before .before .before .before .before .before .piece-at in
     let the-b = c .before .before .before .before .before .b in
     let a = args in
-    let e = here (a .in-bytes) (a .quote) (a .text .now) (loop .i) _ _ (piece-at .ensures) (the-b .given .1) in
-    let b = bounds (a .in-bytes) (a .quote) (a .text .now) (loop .i) _ e in
+    let e = here (escapesOf (a .edition)) (a .in-bytes) (a .quote) (a .text .now) (loop .i) _ _ (piece-at .ensures) (the-b .given .1) in
+    let b = bounds (a .edition) (a .in-bytes) (a .quote) (a .text .now) (loop .i) _ e in
     omega arith
 
 loop-less : tie.Need-loop-less Inv-loop μ-loop
@@ -80,11 +81,12 @@ loop-again c =
     let the-b = c .before .before .before .before .before .b in
     let put = c .before .before .put in
     let a = args in
-    let e = here (a .in-bytes) (a .quote) (a .text .now) (loop .i) _ _ (piece-at .ensures) (the-b .given .1) in
-    let b = bounds (a .in-bytes) (a .quote) (a .text .now) (loop .i) _ e in (
+    let e = here (escapesOf (a .edition)) (a .in-bytes) (a .quote) (a .text .now) (loop .i) _ _ (piece-at .ensures) (the-b .given .1) in
+    let b = bounds (a .edition) (a .in-bytes) (a .quote) (a .text .now) (loop .i) _ e in (
       omega arith,
       put .kept .0 ∙ loop .inv .1,
-      goes-on (a .in-bytes) (a .quote) (a .text .now) _ _ _ _ _ _ (loop-test .taken) e (put .ensures) refl ∙ loop .inv .2,
+      goes-on (escapesOf (a .edition)) (a .in-bytes) (a .quote) (a .text .now) _ _ _ _ _ _ (loop-test .taken) e (put .ensures) refl
+          ∙ loop .inv .2,
     )
 
 enum-known-c : tie.Need-enum-known-c Inv-loop μ-loop
@@ -100,8 +102,8 @@ add-i-3 c =
     let piece-at = c .before .before .before .before .before .before .before .piece-at in
     let the-c = c .before .before .before .before .before .c in
     let a = args in
-    let e = here (a .in-bytes) (a .quote) (a .text .now) (loop .i) _ _ (piece-at .ensures) (the-c .given .1) in
-    let b = bounds (a .in-bytes) (a .quote) (a .text .now) (loop .i) _ e in
+    let e = here (escapesOf (a .edition)) (a .in-bytes) (a .quote) (a .text .now) (loop .i) _ _ (piece-at .ensures) (the-c .given .1) in
+    let b = bounds (a .edition) (a .in-bytes) (a .quote) (a .text .now) (loop .i) _ e in
     omega arith
 
 add-i-4 : tie.Need-add-i-4 Inv-loop μ-loop
@@ -111,8 +113,8 @@ add-i-4 c =
     let piece-at = c .before .before .before .before .before .before .before .piece-at in
     let the-c = c .before .before .before .before .before .c in
     let a = args in
-    let e = here (a .in-bytes) (a .quote) (a .text .now) (loop .i) _ _ (piece-at .ensures) (the-c .given .1) in
-    let b = bounds (a .in-bytes) (a .quote) (a .text .now) (loop .i) _ e in
+    let e = here (escapesOf (a .edition)) (a .in-bytes) (a .quote) (a .text .now) (loop .i) _ _ (piece-at .ensures) (the-c .given .1) in
+    let b = bounds (a .edition) (a .in-bytes) (a .quote) (a .text .now) (loop .i) _ e in
     omega arith
 
 loop-less-2 : tie.Need-loop-less-2 Inv-loop μ-loop
@@ -127,11 +129,11 @@ loop-again-2 c =
     let the-c = c .before .before .before .before .before .c in
     let put-point = c .before .before .put-point in
     let a = args in
-    let e = here (a .in-bytes) (a .quote) (a .text .now) (loop .i) _ _ (piece-at .ensures) (the-c .given .1) in
-    let b = bounds (a .in-bytes) (a .quote) (a .text .now) (loop .i) _ e in (
+    let e = here (escapesOf (a .edition)) (a .in-bytes) (a .quote) (a .text .now) (loop .i) _ _ (piece-at .ensures) (the-c .given .1) in
+    let b = bounds (a .edition) (a .in-bytes) (a .quote) (a .text .now) (loop .i) _ e in (
       omega arith,
       put-point .kept .0 ∙ loop .inv .1,
-      goes-on (a .in-bytes) (a .quote) (a .text .now) _ _ _ _ _ _ (loop-test .taken) e (put-point .ensures .1)
+      goes-on (escapesOf (a .edition)) (a .in-bytes) (a .quote) (a .text .now) _ _ _ _ _ _ (loop-test .taken) e (put-point .ensures .1)
           (put-point .ensures .0)
           ∙ loop .inv .2,
     )
@@ -148,9 +150,10 @@ returns c =
     let loop = c .before .before .before .before .before .loop in
     let loop-test = c .before .before .before .before .loop-test in
     let piece-at = c .before .before .piece-at in
+    let told = c .enum-told .given .1 in
     let a = args in
-    let e = here (a .in-bytes) (a .quote) (a .text .now) (loop .i) _ _ (piece-at .ensures) (c .enum-told .given .1) in
-    goes-bad (a .in-bytes) (a .quote) (a .text .now) _ _ _ (loop-test .taken) e
+    let e = here (escapesOf (a .edition)) (a .in-bytes) (a .quote) (a .text .now) (loop .i) _ _ (piece-at .ensures) told in
+    goes-bad (escapesOf (a .edition)) (a .in-bytes) (a .quote) (a .text .now) _ _ _ (loop-test .taken) e
     ∙ loop .inv .2
 
 same-length-2 : tie.Need-same-length-2 Inv-loop μ-loop
@@ -159,7 +162,7 @@ same-length-2 c = c .before .loop .inv .1
 returns-2 : tie.Need-returns-2 Inv-loop μ-loop
 returns-2 c =
     let a = c .before .before .before .before .args in
-    goes-end (a .in-bytes) (a .quote) (a .text .now) _ _ _ (c .loop-test .left)
+    goes-end (escapesOf (a .edition)) (a .in-bytes) (a .quote) (a .text .now) _ _ _ (c .loop-test .left)
     ∙ c .before .loop .inv .2
 
 pub inside-spec : {M : Type 1} → statement M

@@ -2,7 +2,7 @@
 use mathlib.Core.Path.{sym, ap, _∙_}
 use mathlib.Core.Bool.{true}
 use native.Mathlib.Omega.{arith}
-use Rattle.spec.specs.Literal.{escape, quoted}
+use Rattle.spec.specs.Literal.{escapesOf, quoted}
 use Rattle.literal.specs.Answers.{left}
 use Rattle.numbers.proofs.Numbers.{part-from}
 use Rattle.literal.proofs.QuotedTurns.{bad-start, read-empty, read-bytes, read-string, finished}
@@ -11,7 +11,7 @@ use Rattle.literal.proofs.parse_python_literal_into.Statement.{statemen
 use Rattle.literal.proofs.parse_python_literal_into.Tie as tie
 
 returns : tie.Need-returns
-returns c = finished _ _ _ _ (bad-start _ _ (read-empty _ (c .if1 .taken)))
+returns c = finished _ _ _ _ _ (bad-start _ _ (read-empty _ _ (c .if1 .taken)))
 
 shared-slice-read-if2 : tie.Need-shared-slice-read-if2
 shared-slice-read-if2 c = search needs
@@ -37,10 +37,10 @@ same-length c = search needs
 returns-2 : tie.Need-returns-2
 returns-2 c =
     let a = c .before .before .before .before .before .before .before .before .before .before .args in
-    finished (a .text .now) (a .result .now) _ _
+    finished (a .edition) (a .text .now) (a .result .now) _ _
     (c .before .before .quoted .ensures
-    ∙ ap (λ s. left (a .result .now) 0 (quoted escape true s)) (part-from 1 (a .text .now))
-    ∙ ap (left (a .result .now) 0) (sym (read-bytes _ (omega arith) (c .before .before .before .before .before .if2 .taken))))
+    ∙ ap (λ s. left (a .result .now) 0 (quoted (escapesOf (a .edition)) true s)) (part-from 1 (a .text .now))
+    ∙ ap (left (a .result .now) 0) (sym (read-bytes _ _ (omega arith) (c .before .before .before .before .before .if2 .taken))))
 
 same-length-2 : tie.Need-same-length-2
 same-length-2 c = search needs
@@ -51,8 +51,8 @@ returns-3 c =
     let if2 = c .before .before .before .before .if2 in
     let quoted2 = c .before .before .quoted2 in
     let a = args in
-    finished (a .text .now) (a .result .now) _ _
-    (quoted2 .ensures ∙ ap (left (a .result .now) 0) (sym (read-string _ (omega arith) (if2 .left))))
+    finished (a .edition) (a .text .now) (a .result .now) _ _
+    (quoted2 .ensures ∙ ap (left (a .result .now) 0) (sym (read-string _ _ (omega arith) (if2 .left))))
 
 pub parse-python-literal-into-spec : {M : Type 1} → statement M
 parse-python-literal-into-spec =

@@ -1,10 +1,8 @@
 -- `literal::quoted` meets its contract. Assumes nothing.
-use mathlib.Core.Path.{_≡_, sym, ap, _∙_}
+use mathlib.Core.Path.{sym, _∙_}
 use Prim.Native.Nat.{_-_}
-use native.Mathlib.Omega.{arith}
 use borrow.Author.Tests.{not-true, not-false}
-use lib.ListN.{length}
-use Rattle.spec.specs.Literal.{inside}
+use Rattle.spec.specs.Literal.{escapesOf, inside}
 use Rattle.literal.specs.Answers.{left}
 use Rattle.literal.proofs.QuotedTurns.{bad-start, too-short, no-quote, not-closed, all-closed}
 use borrow.Author.Needs.{needs}
@@ -12,7 +10,7 @@ use Rattle.literal.proofs.quoted.Statement.{statement}
 use Rattle.literal.proofs.quoted.Tie as tie
 
 returns : tie.Need-returns
-returns c = bad-start _ _ (too-short _ _ (c .if1 .taken))
+returns c = bad-start _ _ (too-short _ _ _ (c .if1 .taken))
 
 shared-slice-read-quote : tie.Need-shared-slice-read-quote
 shared-slice-read-quote c = search needs
@@ -23,7 +21,7 @@ is-quote-requires c κs = search needs
 returns-2 : tie.Need-returns-2
 returns-2 c =
     let if1 = c .before .before .before .if1 in
-    bad-start _ _ (no-quote _ _ (if1 .left) (sym (c .before .is-quote .ensures) ∙ not-true _ (c .if2 .taken)))
+    bad-start _ _ (no-quote _ _ _ (if1 .left) (sym (c .before .is-quote .ensures) ∙ not-true _ (c .if2 .taken)))
 
 sub-end : tie.Need-sub-end
 sub-end c = search needs
@@ -36,7 +34,7 @@ returns-3 c =
     let if1 = c .before .before .before .before .before .if1 in
     let is-quote = c .before .before .before .is-quote in
     let if2 = c .before .before .if2 in
-    bad-start _ _ (not-closed _ _ (if1 .left) (sym (is-quote .ensures) ∙ not-false _ (if2 .left)) (c .if3 .taken))
+    bad-start _ _ (not-closed _ _ _ (if1 .left) (sym (is-quote .ensures) ∙ not-false _ (if2 .left)) (c .if3 .taken))
 
 sub-inside : tie.Need-sub-inside
 sub-inside c = search needs
@@ -61,11 +59,8 @@ returns-4 c =
     let if2 = c .before .before .before .before .before .before .before .if2 in
     let if3 = c .before .before .before .before .before .if3 in
     let the-inside = c .before .before .inside in
-    let text = args .text .now in
-    let q = all-closed (args .in-bytes) text (if1 .left) (sym (is-quote .ensures) ∙ not-false _ (if2 .left)) (if3 .left) in
-    let n : length text - 1 - 1 ≡ length text - 2 = omega arith in
-    the-inside .ensures
-    ∙ ap (left (args .result .now) 0) (rw n (sym q))
+    all-closed (escapesOf (args .edition)) (args .in-bytes) (args .text .now) (if1 .left)
+    (sym (is-quote .ensures) ∙ not-false _ (if2 .left)) (if3 .left) (args .result .now) _ (the-inside .ensures)
 
 pub quoted-spec : {M : Type 1} → statement M
 quoted-spec =

@@ -12,11 +12,14 @@ smaller-requires c κs = search needs
 one-requires : tie.Need-one-requires
 one-requires c κs = search needs
 
+one-requires-2 : tie.Need-one-requires-2
+one-requires-2 c κs = search needs
+
 mul-smaller : tie.Need-mul-smaller
 mul-smaller c = search needs
 
-one-requires-2 : tie.Need-one-requires-2
-one-requires-2 c κs = search needs
+one-requires-3 : tie.Need-one-requires-3
+one-requires-3 c κs = search needs
 
 add-smaller : tie.Need-add-smaller
 add-smaller c = search needs
@@ -24,14 +27,14 @@ add-smaller c = search needs
 smaller-requires-2 : tie.Need-smaller-requires-2
 smaller-requires-2 c κs = search needs
 
-one-requires-3 : tie.Need-one-requires-3
-one-requires-3 c κs = search needs
+one-requires-4 : tie.Need-one-requires-4
+one-requires-4 c κs = search needs
 
 mul-smaller-2 : tie.Need-mul-smaller-2
 mul-smaller-2 c = search needs
 
-one-requires-4 : tie.Need-one-requires-4
-one-requires-4 c κs = search needs
+one-requires-5 : tie.Need-one-requires-5
+one-requires-5 c κs = search needs
 
 add-smaller-2 : tie.Need-add-smaller-2
 add-smaller-2 c = search needs
@@ -39,8 +42,8 @@ add-smaller-2 c = search needs
 smaller-requires-3 : tie.Need-smaller-requires-3
 smaller-requires-3 c κs = search needs
 
-one-requires-5 : tie.Need-one-requires-5
-one-requires-5 c κs = search needs
+one-requires-6 : tie.Need-one-requires-6
+one-requires-6 c κs = search needs
 
 mul-smaller-3 : tie.Need-mul-smaller-3
 mul-smaller-3 c = search needs
@@ -48,8 +51,8 @@ mul-smaller-3 c = search needs
 smaller-requires-4 : tie.Need-smaller-requires-4
 smaller-requires-4 c κs = search needs
 
-one-requires-6 : tie.Need-one-requires-6
-one-requires-6 c κs = search needs
+one-requires-7 : tie.Need-one-requires-7
+one-requires-7 c κs = search needs
 
 smaller-requires-5 : tie.Need-smaller-requires-5
 smaller-requires-5 c κs = search needs
@@ -63,8 +66,11 @@ part-load-all-start c = search needs
 part-load-all-end : tie.Need-part-load-all-end
 part-load-all-end c = search needs
 
-one-requires-7 : tie.Need-one-requires-7
-one-requires-7 c κs = search needs
+cast-load-all : tie.Need-cast-load-all
+cast-load-all c = search needs
+
+add-load-all : tie.Need-add-load-all
+add-load-all c = search needs
 
 slice-relend-prefix-load-all : tie.Need-slice-relend-prefix-load-all
 slice-relend-prefix-load-all c = search needs
@@ -105,24 +111,26 @@ load-case-spec =
     (tie.spec
     smaller-requires
     one-requires
-    mul-smaller
     one-requires-2
+    mul-smaller
+    one-requires-3
     add-smaller
     smaller-requires-2
-    one-requires-3
-    mul-smaller-2
     one-requires-4
+    mul-smaller-2
+    one-requires-5
     add-smaller-2
     smaller-requires-3
-    one-requires-5
+    one-requires-6
     mul-smaller-3
     smaller-requires-4
-    one-requires-6
+    one-requires-7
     smaller-requires-5
     sub-load-all
     part-load-all-start
     part-load-all-end
-    one-requires-7
+    cast-load-all
+    add-load-all
     slice-relend-prefix-load-all
     slice-aggregate-load-all
     slice-relend-prefix-load-all-2

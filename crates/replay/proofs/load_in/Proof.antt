@@ -17,7 +17,7 @@ use denote.Laws.{Is}
 use denote.Slice.{sliceVal}
 use denote.Struct.Laws as LL
 use Rattle.spec.specs.Memory.{Memory as Lent-memory}
-use Rattle.spec.specs.Load.{loadOn}
+use Rattle.spec.specs.Load.{Form, loadOn}
 use Rattle.nodes.specs.declared.Node.{Node}
 use Rattle.nodes.specs.Run.{blank}
 use Rattle.nodes.proofs.Node as NodeT
@@ -35,19 +35,21 @@ is-blank = LL.owes NodeT.the-type NodeT.Laws.the-laws blank
     ((refl, lit< tt), ((refl, lit< tt), ((refl, lit< tt), ((refl, lit< tt), ((refl, lit< tt), ((refl, lit< tt), tt))))))
 
 -- a load's report is of as many nodes as were lent
-at-room : (partial : Bool) (table : ℕ) (m : Lent-memory) (text : List ℕ) {n k r : ℕ} {report : List ℕ} {after : Lent-memory} → n ≡ k
-    → LoadReported (loadOn partial n table m text) r report after → LoadReported (loadOn partial k table m text) r report after
-at-room partial table m text {n} {k} {r} {report} {after} e l =
-    subst (λ (j : ℕ). LoadReported (loadOn partial j table m text) r report after) e l
+at-room : (form : Form) (partial : Bool) (table : ℕ) (m : Lent-memory) (text : List ℕ) {n k r : ℕ} {report : List ℕ} {after : Lent-memory}
+    → n ≡ k → LoadReported (loadOn form partial n table m text) r report after → LoadReported
+    (loadOn form partial k table m text) r report after
+at-room form partial table m text {n} {k} {r} {report} {after} e l =
+    subst (λ (j : ℕ). LoadReported (loadOn form partial j table m text) r report after) e l
 
 abbrev Rep : RattleType
 Rep = Array u64 tt 6
 
 abbrev ps : List Par
-ps = copied u8 ∷ value bool ∷ lent i32 ∷ lent u32 ∷ lent u8 ∷ lent u64 ∷ lent u64 ∷ value usize ∷ lent u64 ∷ lent u64 ∷ borrowed Rep ∷ []
+ps = copied u8 ∷ value u32 ∷ value bool ∷ lent i32 ∷ lent u32 ∷ lent u8 ∷ lent u64 ∷ lent u64 ∷ value usize ∷ lent u64 ∷ lent u64
+    ∷ borrowed Rep ∷ []
 
 abbrev p : List Par
-p = copied u8 ∷ value bool ∷ lent i32 ∷ lent u32 ∷ lent u8 ∷ lent u64 ∷ lent u64 ∷ lent NodeT.the-row ∷ lent u64 ∷ lent u64
+p = copied u8 ∷ value u32 ∷ value bool ∷ lent i32 ∷ lent u32 ∷ lent u8 ∷ lent u64 ∷ lent u64 ∷ lent NodeT.the-row ∷ lent u64 ∷ lent u64
     ∷ borrowed Rep ∷ []
 
 module _ {M : Type 1} (𝓤 : URA M) (H : Heap 𝓤) (A : Atoms 𝓤) (W : Given 𝓤 H A) (mem : Memory → SProp 𝓤) (run : Routine → Fun 𝓤) where
@@ -55,61 +57,78 @@ module _ {M : Type 1} (𝓤 : URA M) (H : Heap 𝓤) (A : Atoms 𝓤) (W : Given
   node = struct-plain 𝓤 H A W NodeT.the-type NodeT.Laws.the-laws NodeT.Laws.the-plain
 
   abbrev pl : Plains 𝓤 H A ps
-  pl = (bool-plain 𝓤 H A W, (uint-plain 𝓤 H A W w64, tt))
+  pl = (uint-plain 𝓤 H A W w32, (bool-plain 𝓤 H A W, (uint-plain 𝓤 H A W w64, tt)))
 
   module _ (κs : Lfs ps) (qs : Shs ps) (a : Dens ps) (kn : Known 𝓤 H A ps pl a) (𝓣 : Tables 𝓤 H)
       (k : Meets 𝓤 H A rwkv-load.signature (𝓣 .C rwkv-load.Symbol.name) (rwkv-load.spec 𝓤 H A mem run)) where
     abbrev Ens : ℕ → Ends ps → SProp 𝓤
     Ens r ws = f.clauses 𝓤 H A mem run κs a .ensures tt r (atExit f.ended κs a ws)
 
-    walk : a .1 .1 .1 .1 .1 .1 .1 .0 ≤ 4096 → Walked 𝓤 H A W ps pl κs qs a (𝓣 .C) (𝓣 .Λ) code.function u32 Ens
+    walk : a .1 .1 .1 .1 .1 .1 .1 .1 .0 ≤ 4096 → Walked 𝓤 H A W ps pl κs qs a (𝓣 .C) (𝓣 .Λ) code.function u32 Ens
     walk pre =
         let vss : Vss ps = spelled 𝓤 H A ps pl a in
-        let room = a .1 .1 .1 .1 .1 .1 .1 .0 in
+        let room = a .1 .1 .1 .1 .1 .1 .1 .1 .0 in
         starts 𝓤 H A W ps pl κs qs a (𝓣 .C) (𝓣 .Λ) code.function u32 Ens (fitted 𝓤 H A ps pl a kn) (λ bs.
-        let l = bs .1 .1 .1 .1 .1 .1 .1 .1 .1 .1 .1 .1 .1 .0 in
+        let l = bs .1 .1 .1 .1 .1 .1 .1 .1 .1 .1 .1 .1 .1 .1 .0 in
         -- let node = Node { .. };
-        sets ! 12 (agg ! (and-then ! (lit ! tt) (and-then ! (lit ! tt) (and-then ! (lit ! tt) (and-then ! (lit ! tt)
+        sets ! 13 (agg ! (and-then ! (lit ! tt) (and-then ! (lit ! tt) (and-then ! (lit ! tt) (and-then ! (lit ! tt)
         (and-then ! (lit ! tt) (and-then ! (lit ! tt) (no-more !)))))))) refl (node .lawful .typed blank _ is-blank .0) $
         -- let mut nodes = [node; 4096];
-        sets ! 13 (rep ! 4096 (var ! 12 refl)) refl (array-lawful 𝓤 H A W NodeT.the-row (node .lawful) 4096 .typed blanks _
+        sets ! 14 (rep ! 4096 (var ! 13 refl)) refl (array-lawful 𝓤 H A W NodeT.the-row (node .lawful) 4096 .typed blanks _
         (repeated NodeT.the-row 4096 blank (NodeT.Laws.lowered blank) is-blank) .0) $
         -- &mut nodes[..room]
-        lends-first ! tt 13 NodeT.the-row node tt 4096 room blank (NodeT.Laws.lowered blank) is-blank
+        lends-first ! tt 14 NodeT.the-row node tt 4096 room blank (NodeT.Laws.lowered blank) is-blank
         (room-take NodeT.the-row 4096 room blanks refl (lit< tt, lit< tt)) refl (λ nodes en ν δ.
         let shown = ap length en ∙ length-take-le room blanks pre in
-        -- rwkv_tokenizer::rwkv_load(text, partial, .., &mut nodes[..room], used, used_bases, report)
-        reborrow ! 3 14 15 refl refl $ reborrow ! 4 16 17 refl refl $ reborrow ! 5 18 19 refl refl $ reborrow ! 6 20 21 refl refl $
-        reborrow ! 7 22 23 refl refl $ sets ! 24 (addr ! (from ! (stop !))) refl (tt, tt) $
-        sets ! 25 (agg ! (and-then ! (var ! 24 refl) (and-then ! (var ! 8 refl)
-        (no-more !)))) refl (tt, (tt, (record { fits = kn .1 .1 .1 .1 .1 .1 .1 .0 .1 }, tt))) $
-        respell ! 25 refl (ap (sliceVal (l, 0)) (sym shown)) $
-        reborrow ! 9 26 27 refl refl $ reborrow ! 10 28 29 refl refl $
-        sets ! 30 (addr ! (from ! (hop ! (look ! 11 refl) (stop !)))) refl (tt, tt) $
+        -- rwkv_tokenizer::rwkv_load(text, edition, partial, .., &mut nodes[..room], used, used_bases, report)
+        reborrow ! 4 15 16 refl refl $ reborrow ! 5 17 18 refl refl $ reborrow ! 6 19 20 refl refl $ reborrow ! 7 21 22 refl refl $
+        reborrow ! 8 23 24 refl refl $ sets ! 25 (addr ! (from ! (stop !))) refl (tt, tt) $
+        sets ! 26 (agg ! (and-then ! (var ! 25 refl) (and-then ! (var ! 9 refl)
+        (no-more !)))) refl (tt, (tt, (record { fits = kn .1 .1 .1 .1 .1 .1 .1 .1 .0 .1 }, tt))) $
+        respell ! 26 refl (ap (sliceVal (l, 0)) (sym shown)) $
+        reborrow ! 10 27 28 refl refl $ reborrow ! 11 29 30 refl refl $
+        sets ! 31 (addr ! (from ! (hop ! (look ! 12 refl) (stop !)))) refl (tt, tt) $
         let κ′ = κs .1 .1 .1 in
         let q′ = qs .1 .1 .1 in
-        let a′ = a .1 .1 .1 .1 in
-        let v′ = vss .1 .1 .1 .1 in
+        let a′ = a .1 .1 .1 .1 .1 in
+        let v′ = vss .1 .1 .1 .1 .1 in
         let shows = slice-vals (local l δ nodes) in
         let t : Bind p = (
           (κs .0, (κs .1 .0, (κs .1 .1 .0, (κ′ .0, (κ′ .1 .0, (κ′ .1 .1 .0, (ν ∷ [], κ′ .1 .1 .1))))))),
           (qs .0, (qs .1 .0, (qs .1 .1 .0, (q′ .0, (q′ .1 .0, (q′ .1 .1 .0, (fullShare, q′ .1 .1 .1))))))),
           tt,
-          (a .0, (a .1 .0, (a .1 .1 .0, (a .1 .1 .1 .0, (a′ .0, (a′ .1 .0, (a′ .1 .1 .0, (local l δ nodes, a′ .1 .1 .1 .1)))))))),
-          (vss .0, (vss .1 .0, (vss .1 .1 .0, (vss .1 .1 .1 .0, (v′ .0, (v′ .1 .0, (v′ .1 .1 .0, (shows, v′ .1 .1 .1 .1)))))))),
+          (
+            a .0,
+            (
+              a .1 .0,
+              (
+                a .1 .1 .0,
+                (a .1 .1 .1 .0, (a .1 .1 .1 .1 .0, (a′ .0, (a′ .1 .0, (a′ .1 .1 .0, (local l δ nodes, a′ .1 .1 .1 .1)))))),
+              ),
+            ),
+          ),
+          (
+            vss .0,
+            (
+              vss .1 .0,
+              (vss .1 .1 .0, (vss .1 .1 .1 .0, (vss .1 .1 .1 .1 .0, (v′ .0, (v′ .1 .0, (v′ .1 .1 .0, (shows, v′ .1 .1 .1 .1))))))),
+            ),
+          ),
         ) in
-        calls-of ! 𝓣 (32 ∷ 33 ∷ 34 ∷ 35 ∷ 36 ∷ 37 ∷ 13 ∷ 38 ∷ 39 ∷ 40 ∷ []) p t (bool-plain 𝓤 H A W .makes (a .1 .0) _ (kn .1 .0), tt)
+        calls-of ! 𝓣 (33 ∷ 34 ∷ 35 ∷ 36 ∷ 37 ∷ 38 ∷ 14 ∷ 39 ∷ 40 ∷ 41 ∷ []) p t
+        (uint-plain 𝓤 H A W w32 .makes (a .1 .0) _ (kn .1 .0), (bool-plain 𝓤 H A W .makes (a .1 .1 .0) _ (kn .1 .1 .0), tt))
         u32 (λ z. k (at p t z, tt)) (λ z. id⊢ 𝓤 _) (λ z r ws. told2 𝓤 H A) refl
-        (copies-but ! (13 ∷ []) (1 ∷ 2 ∷ 15 ∷ 17 ∷ 19 ∷ 21 ∷ 23 ∷ 25 ∷ 27 ∷ 29 ∷ 30 ∷ []) refl) (λ w r ws long is er.
+        (copies-but ! (14 ∷ []) (1 ∷ 2 ∷ 3 ∷ 16 ∷ 18 ∷ 20 ∷ 22 ∷ 24 ∷ 26 ∷ 28 ∷ 30 ∷ 31 ∷ []) refl) (λ w r ws long is er.
         takes ! 0 refl (uint-plain 𝓤 H A W w32 .lawful .typed r _ is .0) $
-        let zs = ws .1 .1 .1 .1 .1 .1 .1 .0 in
-        ends-first ! tt 13 41 NodeT.the-row node 4096 room blank nodes zs en refl refl (long .1 .1 .1 .1 .1 .0) $
+        let zs = ws .1 .1 .1 .1 .1 .1 .1 .1 .0 in
+        ends-first ! tt 14 42 NodeT.the-row node 4096 room blank nodes zs en refl refl (long .1 .1 .1 .1 .1 .0) $
         returns ! (look ! 0 refl) $ leaves ! refl refl $
-        let e = ws .1 .1 in
-        let ends : Ends ps = (tt, (tt, (e .0, (e .1 .0, (e .1 .1 .0, (e .1 .1 .1 .0, (e .1 .1 .1 .1 .0, (tt, e .1 .1 .1 .1 .1 .1)))))))) in
+        let e = ws .1 .1 .1 in
+        let ends : Ends ps =
+        (tt, (tt, (tt, (e .0, (e .1 .0, (e .1 .1 .0, (e .1 .1 .1 .0, (e .1 .1 .1 .1 .0, (tt, e .1 .1 .1 .1 .1 .1))))))))) in
         let far = long .1 .1 .1 in
         by ! (ends-with 𝓤 H A W ps pl κs qs a vss u32 (uint-plain 𝓤 H A W w32) Ens w r is ends
-        (long .0, (long .1 .0, (long .1 .1 .0, (far .0, (far .1 .0, far .1 .1 .1))))) (said1 𝓤 H A (at-room _ _ _ _ shown (er .0)))))))
+        (long .0, (long .1 .0, (long .1 .1 .0, (far .0, (far .1 .0, far .1 .1 .1))))) (said1 𝓤 H A (at-room _ _ _ _ _ shown (er .0)))))))
 
 pub load-in-spec : {M : Type 1} → f.Statement.statement M
 unfolding code.routine tablesOf

@@ -1,11 +1,13 @@
 //! The groups of cases.
 extern crate original;
 
+mod editions;
 mod generate;
 mod inputs;
 mod large;
 mod memory;
 mod random;
+mod reader;
 mod refusals;
 mod sides;
 mod streams;
@@ -19,7 +21,7 @@ type Group = (&'static str, fn(&mut Tally));
 
 /// Runs every group, prints its counts and the sum; fails if anything differs.
 pub fn all() {
-    let groups: [Group; 15] = [
+    let groups: [Group; 19] = [
         ("short literals", texts::literals),
         ("short lines, fields", texts::lines),
         ("pairs of lines", texts::pairs_of_lines),
@@ -35,6 +37,10 @@ pub fn all() {
         ("other memory, decoding", memory::decoding),
         ("streams", streams::streams),
         ("all short streams", streams::short_streams),
+        ("edition 2, short literals", editions::short),
+        ("edition 2, long escapes", editions::long),
+        ("what both editions read", editions::both),
+        ("no such edition: 34", editions::no_such_edition),
     ];
     std::panic::set_hook(Box::new(|panic| {
         // The original panics on some other memory, which is expected.

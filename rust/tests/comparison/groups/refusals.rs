@@ -26,7 +26,7 @@ pub fn short_memory(tally: &mut Tally) {
         let (single, offsets, blob, roots, table) =
             (&mut single[..], &mut offsets[..], &mut blob[..], &mut roots[..], &mut table[..]);
         let lent = ffi::LoadMemory { single, offsets, blob, roots, table, nodes, used, used_bases };
-        let (number, report) = ffi::load(b"\xff", true, lent);
+        let (number, report) = ffi::load(b"\xff", 1, true, lent);
         numbers.push(number == 1);
         let changed =
             *used != [9; 8] || *used_bases != [9; 8] || wanted == 1 && (*ids, *bytes, report) != ([5; 4], [5; 4], [0; 6]);

@@ -6,6 +6,7 @@ use bombrezen::ffi::{self, Decoding, Memory};
 const FILL: u64 = 0x5a5a_5a5a_5a5a_5a5a;
 
 /// Lent memory; `single`, offsets and roots have a cell more than they need, which no call may touch.
+#[derive(Clone, PartialEq)]
 pub struct Lent {
     pub single: Vec<i32>,
     pub offsets: Vec<u32>,
@@ -34,9 +35,25 @@ impl Lent {
         }
     }
 
-    /// The library's load. What must be untouched, and what must be empty after a refusal, is tested in passing.
+    /// The library's load of a text of edition 1, the original's.
     pub fn load(&mut self, text: &[u8], partial: bool) -> Loaded {
-        let memory = ffi::LoadMemory {
+        self.load_edition(text, 1, partial)
+    }
+
+    /// The library's load. What must be untouched, and what must be empty after a refusal, is tested in passing.
+    pub fn load_edition(&mut self, text: &[u8], edition: u32, partial: bool) -> Loaded {
+        let (number, report) = ffi::load(text, edition, partial, self.lend());
+        let past = (self.single[256], self.offsets[65_537], self.roots[65_536]);
+        assert_eq!(past, (FILL as i32, FILL as u32, FILL), "a cell past the fixed lengths was touched");
+        if (3..=21).contains(&number) {
+            assert!(self.is_empty(), "number {number} left something in the memory");
+        }
+        (number, report)
+    }
+
+    /// All of it, for a load.
+    pub fn lend(&mut self) -> ffi::LoadMemory<'_> {
+        ffi::LoadMemory {
             single: &mut self.single,
             offsets: &mut self.offsets,
             blob: &mut self.blob,
@@ -45,14 +62,7 @@ impl Lent {
             nodes: &mut self.nodes,
             used: &mut self.used,
             used_bases: &mut self.used_bases,
-        };
-        let (number, report) = ffi::load(text, partial, memory);
-        let past = (self.single[256], self.offsets[65_537], self.roots[65_536]);
-        assert_eq!(past, (FILL as i32, FILL as u32, FILL), "a cell past the fixed lengths was touched");
-        if number > 2 {
-            assert!(self.is_empty(), "number {number} left something in the memory");
         }
-        (number, report)
     }
 
     fn is_empty(&self) -> bool {
@@ -65,6 +75,15 @@ impl Lent {
 
     pub fn memory(&self) -> Memory<'_> {
         Memory { single: &self.single, offsets: &self.offsets, blob: &self.blob, roots: &self.roots, table: &self.table }
+    }
+
+    /// The same in all five tables.
+    pub fn holds_as(&self, other: &Self) -> bool {
+        self.single == other.single
+            && self.offsets == other.offsets
+            && self.blob == other.blob
+            && self.roots == other.roots
+            && self.table == other.table
     }
 
     /// All five tables against the original's, word for word, with zeros past the content.

@@ -7,7 +7,7 @@ use super::tally::Tally;
 use super::theirs::original_load;
 
 /// A place to load small texts.
-fn small() -> Lent {
+pub fn small() -> Lent {
     Lent::new(2048, 2048, 8)
 }
 
@@ -27,7 +27,7 @@ fn same_load(lent: &mut Lent, tally: &mut Tally, text: &str) {
 }
 
 /// Every string over an alphabet up to a length, in turn.
-fn strings(alphabet: &[&str], most: usize, visit: &mut impl FnMut(&str)) {
+pub fn strings(alphabet: &[&str], most: usize, visit: &mut impl FnMut(&str)) {
     fn go(alphabet: &[&str], left: usize, made: &mut String, visit: &mut impl FnMut(&str)) {
         visit(made);
         if left > 0 {

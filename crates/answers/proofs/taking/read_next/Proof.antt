@@ -1,130 +1,23 @@
 -- `answers::taking::read_next` meets its contract. Assumes nothing.
 use borrow.Author.Needs.{needs}
-use mathlib.Core.Path.{sym, _∙_, subst}
-use native.Mathlib.Omega.{arith}
-use lib.ListN.{drop}
-use Rattle.laws.specs.LineWalk.{nextLine}
-use Rattle.answers.specs.Taking.{NextAs}
-use Rattle.answers.proofs.TakingLines.{a-line, line-within, next-refused, next-none, next-line}
+use mathlib.Core.Path.{sym}
+use lib.Seq.{length-take-le}
 use Rattle.answers.proofs.taking.read_next.Statement.{statement}
 use Rattle.answers.proofs.taking.read_next.Tie as tie
 
-returns : tie.Need-returns
-returns c =
-    let d = c .before .before .before .before in
-    let a = d .args in
-    let p = d .pre in
-    next-refused (a .text .now) (a .cells .now) (a .t) (p .0) (p .1) (p .2) (c .if1 .taken)
+slice-aggregate-read-in : tie.Need-slice-aggregate-read-in
+slice-aggregate-read-in c =
+    let a = c .before .before .before .args in
+    sym (length-take-le (a .plan .end) (a .source .now) (c .before .before .before .pre .0))
 
-next-line-requires : tie.Need-next-line-requires
-next-line-requires c κs = search needs
-
-enum-told : tie.Need-enum-told
-enum-told c = search needs
-
-stopped-requires : tie.Need-stopped-requires
-stopped-requires c κs = search needs
-
-enum-known-end : tie.Need-enum-known-end
-enum-known-end c = search needs
-
-sub-read-line : tie.Need-sub-read-line
-sub-read-line c =
-    let d = c .before in
-    let e = d .before .before in
-    let a = e .before .before .before .before .before .args in
-    let L = a-line (a .t .at) _ _ (nextLine (drop (a .t .at) (a .text .now))) (sym (d .end .given .1) ∙ e .next-line .ensures) in
-    let w = line-within (a .text .now) (a .t .at) _ _ L in
-    let w0 = w .0 in
-    let w1 = w .1 in
-    let w2 = w .2 in
-    let w3 = w .3 in
-    omega arith
-
-part-read-line-start : tie.Need-part-read-line-start
-part-read-line-start c =
-    let d = c .before in
-    let e = d .before .before in
-    let a = e .before .before .before .before .before .args in
-    let L = a-line (a .t .at) _ _ (nextLine (drop (a .t .at) (a .text .now))) (sym (d .end .given .1) ∙ e .next-line .ensures) in
-    let w = line-within (a .text .now) (a .t .at) _ _ L in
-    let w0 = w .0 in
-    let w1 = w .1 in
-    let w2 = w .2 in
-    let w3 = w .3 in
-    omega arith
-
-part-read-line-end : tie.Need-part-read-line-end
-part-read-line-end c =
-    let d = c .before in
-    let e = d .before .before in
-    let a = e .before .before .before .before .before .args in
-    let L = a-line (a .t .at) _ _ (nextLine (drop (a .t .at) (a .text .now))) (sym (d .end .given .1) ∙ e .next-line .ensures) in
-    let w = line-within (a .text .now) (a .t .at) _ _ L in
-    let w0 = w .0 in
-    let w1 = w .1 in
-    let w2 = w .2 in
-    let w3 = w .3 in
-    omega arith
-
-read-line-requires : tie.Need-read-line-requires
-read-line-requires c κs = search needs
-
-line-read-requires : tie.Need-line-read-requires
-line-read-requires c κs =
-    let d = c .before .before .before .before .before .before in
-    let e = d .before .before in
-    let a = e .before .before .before .before .before .args in
-    let L = a-line (a .t .at) _ _ (nextLine (drop (a .t .at) (a .text .now))) (sym (d .end .given .1) ∙ e .next-line .ensures) in
-    let w = line-within (a .text .now) (a .t .at) _ _ L in
-    let w0 = w .0 in
-    let w1 = w .1 in
-    let w2 = w .2 in
-    let w3 = w .3 in
-    let p = e .before .before .before .before .before .pre .1 in
-    omega arith
-
-returns-2 : tie.Need-returns-2
-returns-2 c =
-    let d = c .before .before .before in
-    let a = d .before .before .before .before .before .args in
-    let p = d .before .before .before .before .before .pre in
-    subst (NextAs (a .text .now) (a .cells .now) (a .t)) (sym (c .stopped .ensures))
-    (next-none (a .text .now) (a .cells .now) (a .t) (p .0) (p .1) (d .before .if1 .left)
-    (sym (c .before .enum-told .given .1) ∙ d .next-line .ensures))
+read-in-requires : tie.Need-read-in-requires
+read-in-requires c κs = search needs
 
 same-length : tie.Need-same-length
 same-length c = search needs
 
-returns-3 : tie.Need-returns-3
-returns-3 c =
-    let b = c .before .before .before .read-line in
-    let d = c .before .before .before .before .before .before .before in
-    let e = d .before .before in
-    let a = e .before .before .before .before .before .args in
-    let p = e .before .before .before .before .before .pre in
-    let L = a-line (a .t .at) _ _ (nextLine (drop (a .t .at) (a .text .now))) (sym (d .end .given .1) ∙ e .next-line .ensures) in
-    let k = b .kept .1 .1 .0 in
-    let h = p .3 in
-    subst (NextAs (a .text .now) (b .last .1 .1 .0) (a .t)) (sym (c .line-read .ensures))
-    (next-line (a .text .now) _ (a .t) (p .0) (p .1) _ _ L (e .before .if1 .left)
-    (λ k. (e .before .before .before .before .shared-slice-known .given k) .fits)
-    (omega arith) (b .result) (b .ensures .0) (b .ensures .1))
+returns : tie.Need-returns
+returns c = search needs
 
 pub read-next-spec : {M : Type 1} → statement M
-read-next-spec =
-    tie.close
-    (tie.spec
-    returns
-    next-line-requires
-    enum-told
-    stopped-requires
-    enum-known-end
-    sub-read-line
-    part-read-line-start
-    part-read-line-end
-    read-line-requires
-    line-read-requires
-    returns-2
-    same-length
-    returns-3)
+read-next-spec = tie.close (tie.spec slice-aggregate-read-in read-in-requires same-length returns)

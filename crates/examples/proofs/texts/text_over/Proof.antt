@@ -7,20 +7,23 @@ use borrow.Author.Needs.{needs}
 use Rattle.examples.proofs.texts.text_over.Statement.{statement}
 use Rattle.examples.proofs.texts.text_over.Tie as tie
 
-slice-aggregate-early-refusal : tie.Need-slice-aggregate-early-refusal
-slice-aggregate-early-refusal c = search needs
+text-of-requires : tie.Need-text-of-requires
+text-of-requires c κs = search needs
+
+slice-aggregate-start-of : tie.Need-slice-aggregate-start-of
+slice-aggregate-start-of c = search needs
 
 array-share-prefix-offsets : tie.Need-array-share-prefix-offsets
 array-share-prefix-offsets c = search needs
 
-slice-aggregate-early-refusal-2 : tie.Need-slice-aggregate-early-refusal-2
-slice-aggregate-early-refusal-2 c = sym (length-take-le _ _ (simp length-replicate (omega arith)))
+slice-aggregate-start-of-2 : tie.Need-slice-aggregate-start-of-2
+slice-aggregate-start-of-2 c = sym (length-take-le _ _ (simp length-replicate (omega arith)))
 
-slice-aggregate-early-refusal-3 : tie.Need-slice-aggregate-early-refusal-3
-slice-aggregate-early-refusal-3 c = search needs
+slice-aggregate-start-of-3 : tie.Need-slice-aggregate-start-of-3
+slice-aggregate-start-of-3 c = search needs
 
-early-refusal-requires : tie.Need-early-refusal-requires
-early-refusal-requires c κs = search needs
+start-of-requires : tie.Need-start-of-requires
+start-of-requires c κs = search needs
 
 write-refusal-requires : tie.Need-write-refusal-requires
 write-refusal-requires c κs = search needs
@@ -32,10 +35,11 @@ pub text-over-spec : {M : Type 1} → statement M
 text-over-spec =
     tie.close
     (tie.spec
-    slice-aggregate-early-refusal
+    text-of-requires
+    slice-aggregate-start-of
     array-share-prefix-offsets
-    slice-aggregate-early-refusal-2
-    slice-aggregate-early-refusal-3
-    early-refusal-requires
+    slice-aggregate-start-of-2
+    slice-aggregate-start-of-3
+    start-of-requires
     write-refusal-requires
     returns)

@@ -20,7 +20,7 @@ same-length c = search needs
 
 returns : tie.Need-returns
 returns c = (
-  literal-bad _ _ _ (sym (ap lengthOf (c .enum-told .given .1))
+  literal-bad _ _ _ _ (sym (ap lengthOf (c .enum-told .given .1))
       ∙ c .before .before .before .before .parse-python-literal-into .ensures .0),
   tt,
 )
@@ -33,7 +33,7 @@ same-length-2 c = search needs
 
 returns-2 : tie.Need-returns-2
 returns-2 c = (
-  literal-refused _ _ _ _ (sym (ap lengthOf (c .before .before .before .n .given .1))
+  literal-refused _ _ _ _ _ (sym (ap lengthOf (c .before .before .before .n .given .1))
       ∙ c .before .before .before .before .before .before .before .parse-python-literal-into .ensures .0) _
       (c .before .length-refusal .ensures) (c .if1 .taken),
   tt,
@@ -46,11 +46,11 @@ returns-3 : tie.Need-returns-3
 returns-3 c =
     let e = sym (ap lengthOf (c .before .before .before .n .given .1))
     ∙ c .before .before .before .before .before .before .before .parse-python-literal-into .ensures .0 in (
-      literal-found _ _ (c .before .before .before .before .before .before .before .before .before .before .before .args .id) _ e _
+      literal-found _ _ _ (c .before .before .before .before .before .before .before .before .before .before .before .args .id) _ e _
           (c .before .length-refusal .ensures) (c .if1 .left) (c .before .before .before .before .before .before .before .before .before
           .before .before .args .cells .now) _ (c .before .before .before .before .before .before .before .before .before .before .before
           .pre) (c .before .before .before .before .before .before .before .parse-python-literal-into .ensures .1),
-      literal-short _ _ (c .before .before .before .before .before .before .before .before .before .before .before .args .id) _ e _
+      literal-short _ _ _ (c .before .before .before .before .before .before .before .before .before .before .before .args .id) _ e _
           (c .before .length-refusal .ensures) (c .if1 .left),
     )
 

@@ -21,11 +21,11 @@ enum-told : tie.Need-enum-told
 enum-told c = search needs
 
 returns : tie.Need-returns
-returns c = (id-bad _ _ (sym (ap idOf (c .enum-told .given .1)) ∙ c .before .before .read-id .ensures), tt)
+returns c = (id-bad _ _ _ (sym (ap idOf (c .enum-told .given .1)) ∙ c .before .before .read-id .ensures), tt)
 
 returns-2 : tie.Need-returns-2
 returns-2 c = (
-  id-large _ _ _ (sym (ap idOf (c .before .before .wide .given .1)) ∙ c .before .before .before .before .read-id .ensures)
+  id-large _ _ _ _ (sym (ap idOf (c .before .before .wide .given .1)) ∙ c .before .before .before .before .read-id .ensures)
       (c .if1 .taken),
   tt,
 )
@@ -38,7 +38,7 @@ id-refusal-requires c κs = search needs
 
 returns-3 : tie.Need-returns-3
 returns-3 c = (
-  id-refused _ _ _ (sym (ap idOf (c .before .before .before .before .before .wide .given .1))
+  id-refused _ _ _ _ (sym (ap idOf (c .before .before .before .before .before .wide .given .1))
       ∙ c .before .before .before .before .before .before .before .read-id .ensures) (c .before .before .before .if1 .left) _ _
       (c .before .before .short .ensures) (c .before .id-refusal .ensures) (c .if2 .taken),
   tt,
@@ -52,7 +52,7 @@ same-length c = search needs
 
 returns-4 : tie.Need-returns-4
 returns-4 c = (
-  id-read _ _ _ (sym (ap idOf (c .before .before .before .before .before .before .before .before .before .wide .given .1))
+  id-read _ _ _ _ (sym (ap idOf (c .before .before .before .before .before .before .before .before .before .wide .given .1))
       ∙ c .before .before .before .before .before .before .before .before .before .before .before .read-id .ensures)
       (c .before .before .before .before .before .before .before .if1 .left) _ _
       (c .before .before .before .before .before .before .short .ensures) (c .before .before .before .before .before .id-refusal .ensures)

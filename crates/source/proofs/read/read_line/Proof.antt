@@ -29,21 +29,21 @@ read-fields-requires c κs =
 
 returns : tie.Need-returns
 returns c = (
-  fields-refused _ _ _ (sym (ap (fieldsOf (c .before .before .before .before .before .args .line .now)) (c .enum-told .given .1))
+  fields-refused _ _ _ _ (sym (ap (fieldsOf (c .before .before .before .before .before .args .line .now)) (c .enum-told .given .1))
       ∙ c .before .before .split-fields .ensures .0),
   tt,
 )
 
 returns-2 : tie.Need-returns-2
 returns-2 c = (
-  fields-refused _ _ _ (sym (ap (fieldsOf (c .before .before .before .before .before .args .line .now))
+  fields-refused _ _ _ _ (sym (ap (fieldsOf (c .before .before .before .before .before .args .line .now))
       (c .enum-told2 .given .1)) ∙ c .before .before .split-fields .ensures .0),
   tt,
 )
 
 returns-3 : tie.Need-returns-3
 returns-3 c = (
-  fields-refused _ _ _ (sym (ap (fieldsOf (c .before .before .before .before .before .args .line .now))
+  fields-refused _ _ _ _ (sym (ap (fieldsOf (c .before .before .before .before .before .args .line .now))
       (c .enum-told3 .given .1)) ∙ c .before .before .split-fields .ensures .0),
   tt,
 )
@@ -53,7 +53,7 @@ same-length c = search needs
 
 returns-4 : tie.Need-returns-4
 returns-4 c = (
-  fields-read _ _ _ (sym (ap (fieldsOf (c .before .before .before .before .before .before .before .before .before .before .args
+  fields-read _ _ _ _ (sym (ap (fieldsOf (c .before .before .before .before .before .before .before .before .before .before .args
       .line .now)) (c .before .before .before .before .before .fields .given .1))
       ∙ c .before .before .before .before .before .before .before .split-fields .ensures .0) _ (c .before .before .read-fields .ensures .0),
   c .before .before .read-fields .ensures .1,

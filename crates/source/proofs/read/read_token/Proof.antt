@@ -29,7 +29,7 @@ enum-told c = search needs
 
 returns : tie.Need-returns
 returns c = let a = c .before .before .before .before .before .before .args in (
-  length-bad (a .line .now) (a .first) (a .last) (a .id) (sym (ap lengthOf (c .enum-told .given .1))
+  length-bad (a .edition) (a .line .now) (a .first) (a .last) (a .id) (sym (ap lengthOf (c .enum-told .given .1))
       ∙ c .before .before .read-length .ensures),
   tt,
 )
@@ -54,7 +54,7 @@ same-length c = search needs
 
 returns-2 : tie.Need-returns-2
 returns-2 c = let a = c .before .before .before .before .before .before .before .before .before .before .before .before .args in (
-  length-read (a .line .now) (a .first) (a .last) (a .id) _ (sym
+  length-read (a .edition) (a .line .now) (a .first) (a .last) (a .id) _ (sym
       (ap lengthOf (c .before .before .before .before .before .before .wanted .given .1))
       ∙ c .before .before .before .before .before .before .before .before .read-length .ensures) _
       (c .before .before .read-bytes .ensures .0),

@@ -1,4 +1,5 @@
--- One turn of the taking of lines after another: what each function of `taking` answers keeps to what a taking stands for. Assumes nothing.
+-- One turn of the taking of records after another: what each function of `taking` answers keeps to what a taking stands for. Assumes
+-- nothing.
 use mathlib.Core.Path.{_≡_, refl, sym, ap, ap₂, _∙_, subst}
 use mathlib.Core.Bool.{Bool, true, false, not, cond}
 use mathlib.Core.Option.{Option, none, some}
@@ -10,11 +11,10 @@ use lib.Dec.{T}
 use lib.ListN.{length, take, drop, getD, length-drop}
 use lib.Seq.{drop-drop, length-take-le}
 use Rattle.spec.specs.Check.{Check, pass, refuse, andThen}
-use Rattle.laws.specs.LineWalk.{First, nextLine, turn, lines-next, nextLine-stays}
-use Rattle.spec.specs.Line.{lines}
+use Rattle.laws.specs.LineWalk.{First, nextLine, nextIn, turnIn, records-next, next-stays}
 use Rattle.spec.specs.Token.{Token}
 use Rattle.spec.specs.Memory.{memory}
-use Rattle.spec.specs.Load.{Room, lastId, readLine, admit, takeLine, line, refused, finish, takeLines, load}
+use Rattle.spec.specs.Load.{Room, Form, recordsIn, reading, lastId, admit, takeOne, line, refused, finish, takeAll, load}
 use Rattle.laws.specs.Bounds.{tokens-few, nodeCount-small, blob-small}
 use Rattle.laws.specs.Reads.{LongEnough}
 use Rattle.loading.specs.Accepted.{read-passes}
@@ -30,35 +30,53 @@ use Rattle.tokens.specs.declared.Pushed.the-variants as Pushed
 use Rattle.line.specs.Answers.{lineAt}
 use Rattle.line.specs.declared.NextLine.{NextLine}
 use Rattle.line.specs.declared.NextLine.the-variants as NextLine
-use Rattle.source.specs.SourceAnswers.{readOf, Short}
+use Rattle.source.specs.SourceAnswers.{formOf, readOf, Short}
+use Rattle.source.specs.declared.Form as Source
+use Rattle.source.specs.declared.Form.the-variants as Form
 use Rattle.source.specs.declared.read.Read.{Read}
 use Rattle.source.specs.declared.read.Read.the-variants as Read
 use Rattle.answers.specs.Taking.{Left, Stated, Before, After, Pushable, NextAs}
-use Rattle.answers.specs.LoadParts.{begunAs, stoppedAs, lineAs, pushedAs, LinesAs}
+use Rattle.answers.specs.LoadParts.{begunAs, stoppedAs, recordAs, pushedAs, RecordsAs}
 use Rattle.answers.specs.declared.taking.Taking.{Taking}
 
--- ---- the next line, as places in the text
+-- ---- the next record, as places in the source
 
--- the next line, if any, from the answer of the code
+-- the next record, if any, from the answer of the code
 no-line : (at : ℕ) (o : Option First) → NextLine.Nothing ≡ lineAt at o → o ≡ none
 no-line at none e = refl
 no-line at (some f) e = let z : _≡_ {A = ℕ} 0 1 = cc in absurd (omega arith)
 
-pub record LineFrom (at end next : ℕ) (o : Option First) : Type 0 where
+pub record RecordFrom (at end next : ℕ) (o : Option First) : Type 0 where
   pub found : First
   pub is : o ≡ some found
   pub end-is : end ≡ at + found .size
   pub next-is : next ≡ at + found .next
 
-pub a-line : (at end next : ℕ) (o : Option First) → NextLine.Line end next ≡ lineAt at o → LineFrom at end next o
+a-line : (at end next : ℕ) (o : Option First) → NextLine.Line end next ≡ lineAt at o → RecordFrom at end next o
 a-line at end next none e = let z : _≡_ {A = ℕ} 0 1 = cc in absurd (omega arith)
 a-line at end next (some f) e = record { found = f; is = refl; end-is = cc; next-is = cc }
 
--- it lies in the text, and goes on
-pub line-within : (text : List ℕ) (at end next : ℕ) → LineFrom at end next (nextLine (drop at text))
+-- the next line of a text is its next record
+next-is : (form : Source.Form) (s : List ℕ) → nextLine s ≡ nextIn (formOf form) s
+unfolding nextIn
+next-is Form.Edition1 s = refl
+next-is Form.Edition2 s = refl
+next-is Form.NoEdition s = refl
+
+module _ (form : Source.Form) (body : List ℕ) (at : ℕ) where
+  pub no-record : NextLine.Nothing ≡ lineAt at (nextLine (drop at body)) → NextLine.Nothing
+      ≡ lineAt at (nextIn (formOf form) (drop at body))
+  no-record e = e ∙ ap (lineAt at) (next-is form (drop at body))
+
+  pub a-record : (end next : ℕ) → NextLine.Line end next ≡ lineAt at (nextLine (drop at body))
+      → RecordFrom at end next (nextIn (formOf form) (drop at body))
+  a-record end next e = a-line at end next (nextIn (formOf form) (drop at body)) (e ∙ ap (lineAt at) (next-is form (drop at body)))
+
+-- it lies in the source, and goes on
+pub record-within : (form : Form) (text : List ℕ) (at end next : ℕ) → RecordFrom at end next (nextIn form (drop at text))
     → (at ≤ end) × (end ≤ next) × (at < next) × (next ≤ length text)
-line-within text at end next L =
-    let s = nextLine-stays (drop at text) (L .found) (L .is) in
+record-within form text at end next L =
+    let s = next-stays form (drop at text) (L .found) (L .is) in
     let k = length-drop at text in
     let a = s .0 in
     let b = s .1 in
@@ -67,49 +85,56 @@ line-within text at end next L =
     let e = L .next-is in
     (omega arith, omega arith, omega arith, omega arith)
 
--- ---- one line
+-- ---- one record
 
-line-refused : (r : Room) (ts : List Token) (l : List ℕ) (n : ℕ) → readLine (lastId ts) l ≡ refuse n → takeLine r ts l ≡ refuse n
-unfolding takeLine
-line-refused r ts l n e = ap (λ (c : Check Token). andThen c (admit r ts)) e ∙ (unfold andThen in refl)
+record-refused : (form : Form) (r : Room) (ts : List Token) (l : List ℕ) (n : ℕ) → reading form (lastId ts) l ≡ refuse n
+    → takeOne form r ts l ≡ refuse n
+unfolding takeOne
+record-refused form r ts l n e = ap (λ (c : Check Token). andThen c (admit r ts)) e ∙ (unfold andThen in refl)
 
-line-read : (r : Room) (ts : List Token) (l : List ℕ) (t : Token) → readLine (lastId ts) l ≡ pass t → takeLine r ts l ≡ admit r ts t
-unfolding takeLine
-line-read r ts l t e = ap (λ (c : Check Token). andThen c (admit r ts)) e ∙ (unfold andThen in refl)
+record-read : (form : Form) (r : Room) (ts : List Token) (l : List ℕ) (t : Token) → reading form (lastId ts) l ≡ pass t
+    → takeOne form r ts l ≡ admit r ts t
+unfolding takeOne
+record-read form r ts l t e = ap (λ (c : Check Token). andThen c (admit r ts)) e ∙ (unfold andThen in refl)
 
-module _ (partial : Bool) (r : Room) (text : List ℕ) (n at : ℕ) (ts : List Token) (h : Left partial r text n at ts) where
-  left-none : nextLine (drop at text) ≡ none → load partial r text ≡ finish partial r ts
-  unfolding takeLines
-  left-none e = sym h ∙ ap (takeLines partial r (suc n) ts) (lines-next (drop at text) ∙ ap (λ (o : Option First). turn o (drop at text)) e)
+module _ (form : Form) (partial : Bool) (r : Room) (text : List ℕ) (n at : ℕ) (ts : List Token) (h : Left form partial r text n at ts) where
+  left-none : nextIn form (drop at text) ≡ none → load form partial r text ≡ finish partial r ts
+  unfolding takeAll
+  left-none e = sym h ∙ ap (takeAll form partial r (suc n) ts)
+      (records-next form (drop at text) ∙ ap (λ (o : Option First). turnIn form o (drop at text)) e)
 
-  module _ (end next : ℕ) (L : LineFrom at end next (nextLine (drop at text))) where
+  module _ (end next : ℕ) (L : RecordFrom at end next (nextIn form (drop at text))) where
     part-is : take (end - at) (drop at text) ≡ take (L .found .size) (drop at text)
     part-is = let e = L .end-is in let k : end - at ≡ L .found .size = omega arith in ap (λ (x : ℕ). take x (drop at text)) k
 
     rest-is : drop (L .found .next) (drop at text) ≡ drop next text
     rest-is = drop-drop (L .found .next) at text ∙ ap (λ (x : ℕ). drop x text) (sym (L .next-is))
 
-    lines-are : lines (drop at text) ≡ take (end - at) (drop at text) ∷ lines (drop next text)
-    lines-are =
-        lines-next (drop at text) ∙ ap (λ (o : Option First). turn o (drop at text)) (L .is)
-        ∙ ap₂ (λ (x y : List ℕ). x ∷ lines y) (sym part-is) rest-is
+    records-are : recordsIn form (drop at text) ≡ take (end - at) (drop at text) ∷ recordsIn form (drop next text)
+    records-are =
+        records-next form (drop at text) ∙ ap (λ (o : Option First). turnIn form o (drop at text)) (L .is)
+        ∙ ap₂ (λ (x y : List ℕ). x ∷ recordsIn form y) (sym part-is) rest-is
 
-    left-line : (c : Check (List Token)) → takeLine r ts (take (end - at) (drop at text)) ≡ c
-        → elim c [ pass more ↦ takeLines partial r (suc (suc n)) more (lines (drop next text)) | refuse k ↦ refused k (line (suc n)) ]
-        ≡ load partial r text
-    unfolding takeLines
-    left-line c e =
+    left-record : (c : Check (List Token)) → takeOne form r ts (take (end - at) (drop at text)) ≡ c
+        → elim c [
+          | pass more ↦ takeAll form partial r (suc (suc n)) more (recordsIn form (drop next text))
+          | refuse k ↦ refused k
+              (line (suc n))
+        ]
+        ≡ load form partial r text
+    unfolding takeAll
+    left-record c e =
         ap (λ (d : Check (List Token)). elim d [
-          | pass more ↦ takeLines partial r (suc (suc n)) more (lines (drop next text))
+          | pass more ↦ takeAll form partial r (suc (suc n)) more (recordsIn form (drop next text))
           | refuse k ↦
               refused k (line (suc n))
         ]) (sym e)
-        ∙ ap (takeLines partial r (suc n) ts) (sym lines-are) ∙ h
+        ∙ ap (takeAll form partial r (suc n) ts) (sym records-are) ∙ h
 
--- ---- the answer of `read_next`: the line before was refused, there is no line, or there is one
+-- ---- the answer of `read_next`: the record before was refused, there is no record, or there is one
 
-module _ (text cells : List ℕ) (t : Taking) (at : t .at ≤ length text) (counted : t .lines ≤ t .at) where
-  pub next-refused : T (not (t .takes)) → (t .number ≡ 0 → ⊥) → NextAs text cells t t
+module _ (form : Form) (text cells : List ℕ) (t : Taking) (at : t .at ≤ length text) (counted : t .lines ≤ t .at) where
+  pub next-refused : T (not (t .takes)) → (t .number ≡ 0 → ⊥) → NextAs form text cells t t
   next-refused idle bad = record {
     build = refl;
     number = λ e. e;
@@ -126,7 +151,8 @@ module _ (text cells : List ℕ) (t : Taking) (at : t .at ≤ length text) (coun
       both true y n = n
       both false y n = y
 
-  pub next-none : t .number ≡ 0 → NextLine.Nothing ≡ lineAt (t .at) (nextLine (drop (t .at) text)) → NextAs text cells t (stoppedAs t 0)
+  pub next-none : t .number ≡ 0 → NextLine.Nothing ≡ lineAt (t .at) (nextIn form (drop (t .at) text)) → NextAs form text cells t
+      (stoppedAs t 0)
   next-none fine e = record {
     build = refl;
     number = λ _. fine;
@@ -136,48 +162,48 @@ module _ (text cells : List ℕ) (t : Taking) (at : t .at ≤ length text) (coun
       refusal = λ k. absurd (k refl);
       stated = λ y. absurd y;
       ended = λ _ _.
-          left-none partial r text (t .lines) (t .at) ts (b .left fine) (no-line (t .at) (nextLine (drop (t .at) text)) e);
+          left-none form partial r text (t .lines) (t .at) ts (b .left fine) (no-line (t .at) (nextIn form (drop (t .at) text)) e);
     };
   }
 
-  module _ (end next : ℕ) (L : LineFrom (t .at) end next (nextLine (drop (t .at) text))) (fine : t .number ≡ 0)
+  module _ (end next : ℕ) (L : RecordFrom (t .at) end next (nextIn form (drop (t .at) text))) (fine : t .number ≡ 0)
       (bytes : (k : ℕ) → getD text k 0 < 256) (long : 255 ≤ length cells) where
     abbrev l : List ℕ
     l = take (end - t .at) (drop (t .at) text)
 
     inside : (next ≤ length text) × (t .lines + 1 ≤ next)
-    inside = let w = line-within text (t .at) end next L in let a = w .2 in (w .3, omega arith)
+    inside = let w = record-within form text (t .at) end next L in let a = w .2 in (w .3, omega arith)
 
     add-one : suc (t .lines) ≡ t .lines + 1
     add-one = omega arith
 
     module _ (partial : Bool) (r : Room) (ts : List Token) (previous : t .build .previous ≡ lastId ts)
-        (b : Before partial r text ts t) where
-      turned : (c : Check (List Token)) → takeLine r ts l ≡ c
+        (b : Before form partial r text ts t) where
+      turned : (c : Check (List Token)) → takeOne form r ts l ≡ c
           → elim c [
-            | pass more ↦ takeLines partial r (suc (t .lines + 1)) more (lines (drop next text))
+            | pass more ↦ takeAll form partial r (suc (t .lines + 1)) more (recordsIn form (drop next text))
             | refuse k ↦ refused k (line (t .lines + 1))
-          ] ≡ load partial r text
+          ] ≡ load form partial r text
       turned c e = subst (λ (n : ℕ). elim c [
-        | pass more ↦ takeLines partial r (suc n) more (lines (drop next text))
+        | pass more ↦ takeAll form partial r (suc n) more (recordsIn form (drop next text))
         | refuse k ↦ refused k (line n)
-      ] ≡ load partial r text) add-one (left-line partial r text (t .lines) (t .at) ts (b .left fine) end next L c e)
+      ] ≡ load form partial r text) add-one (left-record form partial r text (t .lines) (t .at) ts (b .left fine) end next L c e)
 
-      read-after : (c : Check Token) → c ≡ readLine (t .build .previous) l → readLine (lastId ts) l ≡ c
-      read-after c e = ap (λ (n : ℕ). readLine n l) (sym previous) ∙ sym e
+      read-after : (c : Check Token) → c ≡ reading form (t .build .previous) l → reading form (lastId ts) l ≡ c
+      read-after c e = ap (λ (n : ℕ). reading form n l) (sym previous) ∙ sym e
 
-      refused-as : (n : ℕ) → refuse n ≡ readLine (t .build .previous) l → load partial r text ≡ refused n (line (t .lines + 1))
-      refused-as n e = sym (turned (refuse n) (line-refused r ts l n (read-after (refuse n) e)))
+      refused-as : (n : ℕ) → refuse n ≡ reading form (t .build .previous) l → load form partial r text ≡ refused n (line (t .lines + 1))
+      refused-as n e = sym (turned (refuse n) (record-refused form r ts l n (read-after (refuse n) e)))
 
-      stated-as : (u : Token) → pass u ≡ readLine (t .build .previous) l → Stated partial r text (t .lines + 1) next ts u
-      stated-as u e = turned (admit r ts u) (line-read r ts l u (read-after (pass u) e))
+      stated-as : (u : Token) → pass u ≡ reading form (t .build .previous) l → Stated form partial r text (t .lines + 1) next ts u
+      stated-as u e = turned (admit r ts u) (record-read form r ts l u (read-after (pass u) e))
 
-    pub next-line : (found : Read) → readOf cells found ≡ readLine (t .build .previous) l → Short found
-        → NextAs text cells t (lineAs t next found)
-    next-line (Read.Found id n) e short =
+    pub next-record : (found : Read) → readOf cells found ≡ reading form (t .build .previous) l → Short found
+        → NextAs form text cells t (recordAs t next found)
+    next-record (Read.Found id n) e short =
         let u : Token = record { id = id; bytes = take n cells } in
         let b = bytes-take (end - t .at) (drop (t .at) text) (bytes-drop (t .at) text (bytes-of text bytes)) in
-        let R = read-passes (t .build .previous) l u b (sym e) in
+        let R = read-passes form (t .build .previous) l u b (sym e) in
         let q : length (take n cells) ≡ n = length-take-le n cells (omega arith) in
         let a = R .nonempty in
         record {
@@ -186,7 +212,7 @@ module _ (text cells : List ℕ) (t : Taking) (at : t .at ≤ length text) (coun
           within = inside;
           takes = λ _. (
             record { number = refl; nonempty = omega arith; short = short; above = R .above },
-            line-within text (t .at) end next L .2,
+            record-within form text (t .at) end next L .2,
           );
           gives = λ partial r ts previous b. record {
             refusal = λ k. absurd (k refl);
@@ -194,7 +220,7 @@ module _ (text cells : List ℕ) (t : Taking) (at : t .at ≤ length text) (coun
             ended = λ idle. absurd idle;
           };
         }
-    next-line (Read.Refused n) e short = record {
+    next-record (Read.Refused n) e short = record {
       build = refl;
       number = λ _. fine;
       within = inside;
@@ -203,11 +229,11 @@ module _ (text cells : List ℕ) (t : Taking) (at : t .at ≤ length text) (coun
           let q = refused-as partial r ts previous b n e in record {
             refusal = λ _. q;
             stated = λ y. absurd y;
-            ended = λ _ z. absurd (let h = load-refused partial r text n (line (t .lines + 1)) q in omega arith);
+            ended = λ _ z. absurd (let h = load-refused form partial r text n (line (t .lines + 1)) q in omega arith);
           };
     }
 
--- ---- the loop over the lines
+-- ---- the loop over the records
 
 -- room is a matter of lengths
 same-room : (ns ns₀ : Nodes) (bl bl₀ : List ℕ) (table : ℕ) → length ns ≡ length ns₀ → length bl ≡ length bl₀
@@ -225,29 +251,30 @@ small-of {ts} B =
     let f = B .used in
     record { tokens = omega arith; made = (let k = count-more ts in omega arith, omega arith); used = omega arith }
 
--- The memory, from s₀ .. on, holds the tokens of the lines before, unless the last one was refused.
-pub record Going (text : List ℕ) (s₀ : List ℤ) (os₀ bl₀ rs₀ : List ℕ) (ns₀ : Nodes) (s : List ℤ) (os bl rs : List ℕ) (ns : Nodes)
+-- The memory, from s₀ .. on, holds the tokens of the records before, unless the last one was refused.
+pub record Going (form : Form) (text : List ℕ) (s₀ : List ℤ) (os₀ bl₀ rs₀ : List ℕ) (ns₀ : Nodes) (s : List ℤ) (os bl rs : List ℕ)
+    (ns : Nodes)
     (cells : List ℕ) (t : Taking) : Type 0 where
   pub tokens : List Token
   pub built : t .number ≡ 0 → Built tokens s os bl rs ns (t .build)
-  pub gives : (partial : Bool) (table : ℕ) → After partial (roomFor ns₀ bl₀ table) text cells tokens t
+  pub gives : (partial : Bool) (table : ℕ) → After form partial (roomFor ns₀ bl₀ table) text cells tokens t
   pub within : (t .at ≤ length text) × (t .lines ≤ t .at)
   pub takes : T (t .takes) → Pushable t
   pub kept : Kept s₀ os₀ rs₀ s os rs
 
--- what the reading of a line asks for
+-- what the reading of a record asks for
 abbrev pub Asks : List ℕ → List ℕ → Taking → Type 0
 Asks text cells t = (t .at ≤ length text) × (t .lines ≤ t .at) × T (not (t .takes)) × (255 ≤ length cells)
 
--- before the first line
+-- before the first record
 pub begun-asks : (text cells : List ℕ) (st : Build) (t : Taking) → t ≡ begunAs st → 255 ≤ length cells → Asks text cells t
 begun-asks text cells st t e c = subst (Asks text cells) (sym e) (omega arith, omega arith, tt, c)
 
-pub going-starts : (text cells : List ℕ) (s : List ℤ) (os bl rs : List ℕ) (ns : Nodes) (st : Build) (t u : Taking)
-    → Built [] s os bl rs ns st → t ≡ begunAs st → NextAs text cells t u → Going text s os bl rs ns s os bl rs ns cells u
+pub going-starts : (form : Form) (text cells : List ℕ) (s : List ℤ) (os bl rs : List ℕ) (ns : Nodes) (st : Build) (t u : Taking)
+    → Built [] s os bl rs ns st → t ≡ begunAs st → NextAs form text cells t u → Going form text s os bl rs ns s os bl rs ns cells u
 unfolding load
-going-starts text cells s os bl rs ns st t u B e N =
-    let N : NextAs text cells (begunAs st) u = subst (λ (x : Taking). NextAs text cells x u) e N in record {
+going-starts form text cells s os bl rs ns st t u B e N =
+    let N : NextAs form text cells (begunAs st) u = subst (λ (x : Taking). NextAs form text cells x u) e N in record {
       tokens = [];
       built = λ _. subst (Built [] s os bl rs ns) (sym (N .build)) B;
       gives = λ partial table. N .gives partial (roomFor ns bl table) [] (B .previous) (record {
@@ -263,15 +290,15 @@ going-starts text cells s os bl rs ns st t u B e N =
 abbrev pub bytesLeft : List ℕ → Taking → ℕ
 bytesLeft text t = cond (t .takes) (suc (length text - t .at)) 0
 
-module _ {text : List ℕ} {s₀ : List ℤ} {os₀ bl₀ rs₀ : List ℕ} {ns₀ : Nodes} {s : List ℤ} {os bl rs : List ℕ} {ns : Nodes}
-    {cells : List ℕ} {t : Taking} (G : Going text s₀ os₀ bl₀ rs₀ ns₀ s os bl rs ns cells t) where
+module _ {form : Form} {text : List ℕ} {s₀ : List ℤ} {os₀ bl₀ rs₀ : List ℕ} {ns₀ : Nodes} {s : List ℤ} {os bl rs : List ℕ} {ns : Nodes}
+    {cells : List ℕ} {t : Taking} (G : Going form text s₀ os₀ bl₀ rs₀ ns₀ s os bl rs ns cells t) where
   abbrev ts : List Token
   ts = G .tokens
 
   abbrev stated : Token
   stated = record { id = t .id; bytes = take (t .len) cells }
 
-  pub going-done : T (not (t .takes)) → (partial : Bool) (table : ℕ) → LinesAs partial (roomFor ns₀ bl₀ table) text t s os bl rs ns
+  pub going-done : T (not (t .takes)) → (partial : Bool) (table : ℕ) → RecordsAs form partial (roomFor ns₀ bl₀ table) text t s os bl rs ns
   going-done idle partial table = record {
     all = λ e. (ts, G .gives partial table .ended idle e, G .built e);
     refusal = G .gives partial table .refusal;
@@ -309,7 +336,7 @@ module _ {text : List ℕ} {s₀ : List ℤ} {os₀ bl₀ rs₀ : List ℕ} {ns�
         go (Pushed.Refused n) = (G .within .0, G .within .1, tt, c)
 
     -- the next turn is nearer to the text's end
-    pub nearer : {cells′ : List ℕ} {u : Taking} (p : Pushed) (m : Taking) → m ≡ pushedAs t p → NextAs text cells′ m u
+    pub nearer : {cells′ : List ℕ} {u : Taking} (p : Pushed) (m : Taking) → m ≡ pushedAs t p → NextAs form text cells′ m u
         → bytesLeft text u < bytesLeft text t
     nearer {u = u} p m e N = go (t .takes) on (u .takes) (λ y. N .takes y .1)
       where
@@ -330,13 +357,13 @@ module _ {text : List ℕ} {s₀ : List ℤ} {os₀ bl₀ rs₀ : List ℕ} {ns�
     -- the taking of the token, by what it is admitted with
     turned-on : (partial : Bool) (table : ℕ) (c : Check (List Token)) → admit (roomFor ns₀ bl₀ table) ts stated ≡ c
         → elim c [
-          | pass more ↦ takeLines partial (roomFor ns₀ bl₀ table) (suc (t .lines)) more (lines (drop (t .at) text))
+          | pass more ↦ takeAll form partial (roomFor ns₀ bl₀ table) (suc (t .lines)) more (recordsIn form (drop (t .at) text))
           | refuse k ↦ refused k (line (t .lines))
-        ] ≡ load partial (roomFor ns₀ bl₀ table) text
+        ] ≡ load form partial (roomFor ns₀ bl₀ table) text
     turned-on partial table c e = subst (λ (d : Check (List Token)). elim d [
-      | pass more ↦ takeLines partial (roomFor ns₀ bl₀ table) (suc (t .lines)) more (lines (drop (t .at) text))
+      | pass more ↦ takeAll form partial (roomFor ns₀ bl₀ table) (suc (t .lines)) more (recordsIn form (drop (t .at) text))
       | refuse k ↦ refused k (line (t .lines))
-    ] ≡ load partial (roomFor ns₀ bl₀ table) text) e (G .gives partial table .stated on)
+    ] ≡ load form partial (roomFor ns₀ bl₀ table) text) e (G .gives partial table .stated on)
 
     -- the next turn
     module _ {s′ : List ℤ} {os′ : List ℕ} (bl′ : List ℕ) {rs′ : List ℕ} (ns′ : Nodes) (en : length ns ≡ length ns₀)
@@ -356,8 +383,8 @@ module _ {text : List ℕ} {s₀ : List ℤ} {os₀ bl₀ rs₀ : List ℕ} {ns�
         roots = K .roots ∙ G .kept .roots;
       }
 
-      on-from : {cells′ : List ℕ} {u : Taking} (p : Pushed) → Pushes p → NextAs text cells′ (pushedAs t p) u
-          → Going text s₀ os₀ bl₀ rs₀ ns₀ s′ os′ bl′ rs′ ns′ cells′ u
+      on-from : {cells′ : List ℕ} {u : Taking} (p : Pushed) → Pushes p → NextAs form text cells′ (pushedAs t p) u
+          → Going form text s₀ os₀ bl₀ rs₀ ns₀ s′ os′ bl′ rs′ ns′ cells′ u
       on-from (Pushed.Taken st) P N =
           let B = pushed (Pushed.Taken st) P 0 .1 in record {
             tokens = ts ++ (stated ∷ []);
@@ -371,9 +398,9 @@ module _ {text : List ℕ} {s₀ : List ℤ} {os₀ bl₀ rs₀ : List ℕ} {ns�
             kept = still-kept;
           }
       on-from (Pushed.Refused n) P N =
-          let q : (partial : Bool) (table : ℕ) → load partial (roomFor ns₀ bl₀ table) text ≡ refused n (line (t .lines)) =
+          let q : (partial : Bool) (table : ℕ) → load form partial (roomFor ns₀ bl₀ table) text ≡ refused n (line (t .lines)) =
           λ partial table. sym (turned-on partial table (refuse n) (pushed (Pushed.Refused n) P table)) in
-          let few : 3 ≤ n = load-refused true (roomFor ns₀ bl₀ 0) text n (line (t .lines)) (q true 0) in record {
+          let few : 3 ≤ n = load-refused form true (roomFor ns₀ bl₀ 0) text n (line (t .lines)) (q true 0) in record {
             tokens = ts;
             built = λ e. absurd (let z = N .number e in omega arith);
             gives = λ partial table. N .gives partial (roomFor ns₀ bl₀ table) ts (build .previous) (record {
@@ -385,6 +412,6 @@ module _ {text : List ℕ} {s₀ : List ℤ} {os₀ bl₀ rs₀ : List ℕ} {ns�
             kept = still-kept;
           }
 
-      pub going-on : {cells′ : List ℕ} {u : Taking} (p : Pushed) → Pushes p → (m : Taking) → m ≡ pushedAs t p → NextAs text cells′ m u
-          → Going text s₀ os₀ bl₀ rs₀ ns₀ s′ os′ bl′ rs′ ns′ cells′ u
-      going-on {cells′} {u} p P m e N = on-from p P (subst (λ (x : Taking). NextAs text cells′ x u) e N)
+      pub going-on : {cells′ : List ℕ} {u : Taking} (p : Pushed) → Pushes p → (m : Taking) → m ≡ pushedAs t p → NextAs form text cells′ m u
+          → Going form text s₀ os₀ bl₀ rs₀ ns₀ s′ os′ bl′ rs′ ns′ cells′ u
+      going-on {cells′} {u} p P m e N = on-from p P (subst (λ (x : Taking). NextAs form text cells′ x u) e N)

@@ -1,5 +1,5 @@
--- `vocabulary::load_text` meets its contract: a walk of its MIR, by hand. Assumes nothing.
-use Rattle.walks.specs.Prelude.{refl, _∙_, ap, sym, [], _∷_, length, URA, w8, vint, SProp, id⊢, Memory, Routine, Heap, WpFn, Tables}
+-- `vocabulary::load_records` meets its contract: a walk of its MIR, by hand. Assumes nothing.
+use Rattle.walks.specs.Prelude.{refl, _∙_, ap, sym, _≤_, [], _∷_, length, URA, w8, vint, SProp, id⊢, Memory, Routine, Heap, WpFn, Tables}
 use Rattle.walks.specs.Prelude.{Atoms, Fun, givenOf, tables, tablesOf, Given, _$_, !, by, look, init, lit, of-opd, bin, and-then, returns}
 use Rattle.walks.specs.Prelude.{returns-within, u8, Meets, tripleOf, atExit, entered, cited, Lfs, Shs, Dens, Vss, Ends, ended, Plains}
 use Rattle.walks.specs.Prelude.{Known, spelled, fitted, met, After, ends-with, Walked, starts, reborrow, respell, at, calls-to, calls-of}
@@ -18,26 +18,27 @@ use Rattle.tokens.proofs.Build as BuildT
 use Rattle.ending.proofs.Finished as FinishedT
 use Rattle.tokens.proofs.begin as begin
 use Rattle.builder.proofs.finish as finish
-use Rattle.answers.proofs.Settling.{refused-settles, finished-settles, lines-made, long-kept}
+use Rattle.answers.proofs.Settling.{refused-settles, finished-settles, records-made, long-kept}
 use Rattle.answers.specs.declared.Load.{Load}
-use Rattle.vocabulary.proofs.Types.{byte, size, build, taking, finish-end, answer}
-use Rattle.vocabulary.proofs.Passing.{five, ps, p-lines, p-refuse, p-finish, p-settle, lists, to-five, to-lines, to-refuse}
+use Rattle.vocabulary.proofs.Types.{byte, size, build, plan, taking, finish-end, answer}
+use Rattle.vocabulary.proofs.Passing.{five, ps, p-records, p-refuse, p-finish, p-settle, lists, to-five, to-records, to-refuse}
 use Rattle.vocabulary.proofs.Passing.{to-finish, to-settle}
+use Rattle.source.proofs.Plan as PlanT
 use Rattle.answers.proofs.Load as LoadT
 use Rattle.answers.proofs.taking.Taking as TakingT
-use Rattle.vocabulary.proofs.lines.take_lines as take-lines
+use Rattle.vocabulary.proofs.records.take_records as take-records
 use Rattle.answers.proofs.refuse_line as refuse-line
 use Rattle.answers.proofs.settle as settle
-use Rattle.vocabulary.proofs.load_text as f
-use Rattle.vocabulary.proofs.load_text.Code as code
+use Rattle.vocabulary.proofs.load_records as f
+use Rattle.vocabulary.proofs.load_records.Code as code
 
 module _ {M : Type 1} (𝓤 : URA M) (H : Heap 𝓤) (A : Atoms 𝓤) (W : Given 𝓤 H A) (mem : Memory → SProp 𝓤) (run : Routine → Fun 𝓤) where
   abbrev pl : Plains 𝓤 H A ps
-  pl = (bool-plain 𝓤 H A W, tt)
+  pl = (plan W, tt)
 
   module _ (κs : Lfs ps) (qs : Shs ps) (a : Dens ps) (kn : Known 𝓤 H A ps pl a) (𝓣 : Tables 𝓤 H)
       (k₀ : Meets 𝓤 H A begin.signature (𝓣 .C begin.Symbol.name) (begin.spec 𝓤 H A mem run))
-      (k₁ : Meets 𝓤 H A take-lines.signature (𝓣 .C take-lines.Symbol.name) (take-lines.spec 𝓤 H A mem run))
+      (k₁ : Meets 𝓤 H A take-records.signature (𝓣 .C take-records.Symbol.name) (take-records.spec 𝓤 H A mem run))
       (k₂ : Meets 𝓤 H A refuse-line.signature (𝓣 .C refuse-line.Symbol.name) (refuse-line.spec 𝓤 H A mem run))
       (k₃ : Meets 𝓤 H A finish.signature (𝓣 .C finish.Symbol.name) (finish.spec 𝓤 H A mem run))
       (k₄ : Meets 𝓤 H A settle.signature (𝓣 .C settle.Symbol.name) (settle.spec 𝓤 H A mem run)) where
@@ -48,8 +49,11 @@ module _ {M : Type 1} (𝓤 : URA M) (H : Heap 𝓤) (A : Atoms 𝓤) (W : Given
     vss = spelled 𝓤 H A ps pl a
 
     walk : LongEnough (memory (a .1 .1 .0 .now) (a .1 .1 .1 .0 .now) (a .1 .1 .1 .1 .0 .now) (a .1 .1 .1 .1 .1 .0 .now)
-        (a .1 .1 .1 .1 .1 .1 .0 .now)) → Walked 𝓤 H A W ps pl κs qs a (𝓣 .C) (𝓣 .Λ) code.function LoadT.the-row Ens
-    walk long =
+        (a .1 .1 .1 .1 .1 .1 .0 .now)) × (a .1 .0 .end ≤ length (a .0 .now)) → Walked 𝓤 H A W ps pl κs qs a (𝓣 .C)
+        (𝓣 .Λ) code.function LoadT.the-row Ens
+    walk pre =
+        let long = pre .0 in
+        let owed-plan = LL.owed PlanT.the-type PlanT.Laws.the-laws (a .1 .0) (plan W .vals (a .1 .0)) (kn .1 .0) in
         let s = a .1 .1 .0 .now in
         let os = a .1 .1 .1 .0 .now in
         let bl = a .1 .1 .1 .1 .0 .now in
@@ -70,23 +74,24 @@ module _ {M : Type 1} (𝓤 : URA M) (H : Heap 𝓤) (A : Atoms 𝓤) (W : Given
         -- let mut cells = [0u8; 255];
         sets ! 12 (rep ! 255 (lit ! tt)) refl (array-lawful 𝓤 H A W u8 (byte W .lawful) 255 .typed (replicate 255 0) _
         (repeated u8 255 0 (vint w8 0) (refl, lit< tt)) .0) $
-        -- let taken = lines::take_lines(text, single, offsets, blob, roots, nodes, &mut cells, begun);
+        -- let taken = records::take_records(source, plan, single, offsets, blob, roots, nodes, &mut cells, begun);
         reborrow ! 3 26 27 refl refl $ reborrow ! 4 28 29 refl refl $ reborrow ! 5 30 31 refl refl $
         reborrow ! 6 32 33 refl refl $ reborrow ! 8 34 35 refl refl $
         lends-local ! tt 12 u8 (byte W) tt 255 0 (vint w8 0) (refl, lit< tt) (lit< tt, lit< tt) refl (λ cs ec ν δ.
         let cells = local (bs .1 .1 .1 .1 .1 .1 .1 .1 .1 .1 .1 .1 .0) δ cs in
         slices-local ! 12 36 37 255 refl refl tt $ respell ! 37 refl (ap (sliceVal (cells .ptr)) (sym (ap length ec))) $
-        let t = to-lines W κs qs a (lists (ws₁ .0) (ws₁ .1 .0) bl₁ (ws₁ .1 .1 .1 .0) tb₁ ns us vs) ν cells begun in
-        calls-to ! 𝓣 (74 ∷ 75 ∷ 76 ∷ 77 ∷ 78 ∷ 80 ∷ 12 ∷ []) p-lines t (build W .makes begun _ is-b, tt) TakingT.the-row (taking W)
-        (λ z. k₁ (at p-lines t z, tt))
-        (λ z. said1 𝓤 H A (long-kept bl tb [] [] long (l₁ .0) (l₁ .1 .0) (l₁ .1 .1 .1 .0), eb .1 ns, le-refl (ap length ec)))
-        (λ z r ws. told2 𝓤 H A) refl (copies-but ! (12 ∷ []) (1 ∷ 27 ∷ 29 ∷ 31 ∷ 33 ∷ 35 ∷ 37 ∷ 11 ∷ []) refl) refl
+        let t = to-records W κs qs a (lists (ws₁ .0) (ws₁ .1 .0) bl₁ (ws₁ .1 .1 .1 .0) tb₁ ns us vs) ν cells begun in
+        calls-to ! 𝓣 (74 ∷ 75 ∷ 76 ∷ 77 ∷ 78 ∷ 80 ∷ 12 ∷ []) p-records t
+        (plan W .makes (a .1 .0) _ (kn .1 .0), (build W .makes begun _ is-b, tt)) TakingT.the-row (taking W)
+        (λ z. k₁ (at p-records t z, tt))
+        (λ z. said1 𝓤 H A (long-kept bl tb [] [] long (l₁ .0) (l₁ .1 .0) (l₁ .1 .1 .1 .0), eb .1 ns, le-refl (ap length ec), pre .1))
+        (λ z r ws. told2 𝓤 H A) refl (copies-but ! (12 ∷ []) (1 ∷ 2 ∷ 27 ∷ 29 ∷ 31 ∷ 33 ∷ 35 ∷ 37 ∷ 11 ∷ []) refl) refl
         (λ ws v. init ! 13 refl) (λ taken ws₂ l₂ is-t et.
-        let s₂ = ws₂ .1 .0 in
-        let os₂ = ws₂ .1 .1 .0 in
-        let bl₂ = ws₂ .1 .1 .1 .0 in
-        let rs₂ = ws₂ .1 .1 .1 .1 .0 in
-        let ns₂ = ws₂ .1 .1 .1 .1 .1 .0 in
+        let s₂ = ws₂ .1 .1 .0 in
+        let os₂ = ws₂ .1 .1 .1 .0 in
+        let bl₂ = ws₂ .1 .1 .1 .1 .0 in
+        let rs₂ = ws₂ .1 .1 .1 .1 .1 .0 in
+        let ns₂ = ws₂ .1 .1 .1 .1 .1 .1 .0 in
         let es = l₂ .0 ∙ l₁ .0 in
         let eo = l₂ .1 .0 ∙ l₁ .1 .0 in
         let el = l₂ .1 .1 .0 ∙ l₁ .1 .1 .0 in
@@ -94,9 +99,9 @@ module _ {M : Type 1} (𝓤 : URA M) (H : Heap 𝓤) (A : Atoms 𝓤) (W : Given
         let e-tb = l₁ .1 .1 .1 .1 .0 in
         let en = l₂ .1 .1 .1 .1 .0 in
         let ws = lists s₂ os₂ bl₂ rs₂ tb₁ ns₂ us vs in
-        let all = et .0 (a .1 .0) (tableRoom (length tb₁) (length us) (length vs)) in
+        let all = et .0 (a .1 .0 .partial) (tableRoom (length tb₁) (length us) (length vs)) in
         let owed = LL.owed TakingT.the-type TakingT.Laws.the-laws taken (taking W .vals taken) is-t in
-        ends-local ! tt 12 83 u8 (byte W) 255 0 cs (ws₂ .1 .1 .1 .1 .1 .1 .0) ec refl refl (l₂ .1 .1 .1 .1 .1 .0) $
+        ends-local ! tt 12 83 u8 (byte W) 255 0 cs (ws₂ .1 .1 .1 .1 .1 .1 .1 .0) ec refl refl (l₂ .1 .1 .1 .1 .1 .0) $
         -- if taken.number != 0
         sets ! 38 (bin ! (part ! 13 6 refl refl refl) (lit ! tt) tt) refl (tt, tt) $
         checks ! (var ! 38 refl) (λ bad.
@@ -121,17 +126,19 @@ module _ {M : Type 1} (𝓤 : URA M) (H : Heap 𝓤) (A : Atoms 𝓤) (W : Given
         (λ fine.
         let st = taken .build in
         let none = eqb→eq (taken .number) 0 (not-not (eqb (taken .number) 0) fine) in
-        let made = lines-made (all .all none .2) in
+        let made = records-made (all .all none .2) in
         sets ! 14 (of-opd ! (part ! 13 0 refl refl refl)) refl (build W .lawful .typed st _ (owed .0) .0) $
-        -- let end = builder::finish(partial, single, offsets, roots, table, nodes, used, used_bases, st);
+        -- let end = builder::finish(plan.partial, single, offsets, roots, table, nodes, used, used_bases, st);
         let t = to-finish W κs qs a ws st in
         reborrow ! 3 49 50 refl refl $ reborrow ! 4 51 52 refl refl $ reborrow ! 6 53 54 refl refl $ reborrow ! 7 55 56 refl refl $
         reborrow ! 8 57 58 refl refl $ reborrow ! 9 59 60 refl refl $ reborrow ! 10 61 62 refl refl $
         calls-to ! 𝓣 (75 ∷ 76 ∷ 78 ∷ 79 ∷ 80 ∷ 81 ∷ 82 ∷ []) p-finish t
-        (bool-plain 𝓤 H A W .makes (a .1 .0) _ (kn .1 .0), (build W .makes st _ (owed .0), tt)) FinishedT.the-row (finish-end W)
+        (bool-plain 𝓤 H A W .makes (a .1 .0 .partial) _ (owed-plan .1 .0), (build W .makes st _ (owed .0), tt)) FinishedT.the-row
+        (finish-end W)
         (λ z. k₃ (at p-finish t z, tt)) (λ z. said1 𝓤 H A (long-kept bl tb [] [] long es eo er, made .0, made .1))
         (λ z r ws. told2 𝓤 H A) refl
-        (copies ! (2 ∷ 50 ∷ 52 ∷ 54 ∷ 56 ∷ 58 ∷ 60 ∷ 62 ∷ 14 ∷ []) refl) refl (λ ws v. init ! 15 refl) (λ end ws₃ l₃ is-n ef.
+        (and-then ! (part ! 2 1 refl refl refl) (copies ! (50 ∷ 52 ∷ 54 ∷ 56 ∷ 58 ∷ 60 ∷ 62 ∷ 14 ∷ []) refl)) refl
+        (λ ws v. init ! 15 refl) (λ end ws₃ l₃ is-n ef.
         -- settle(st, end, single, offsets, blob, roots, table)
         let x = ws₃ .1 .1 in
         let tb₃ = x .1 .1 .0 in
@@ -161,9 +168,9 @@ module _ {M : Type 1} (𝓤 : URA M) (H : Heap 𝓤) (A : Atoms 𝓤) (W : Given
         (said1 𝓤 H A (finished-settles (length us) (length vs) s os bl rs tb (eb .0) (l₁ .1 .1 .0) e-tb taken all (et .1) (l₂ .1 .1 .0)
         none end tb₃ (ef .0) (ef .1) (l₃ .1 .1 .0) r (ea .0) _ (ea .1)))))))))))
 
-pub load-text-spec : {M : Type 1} → f.Statement.statement M
+pub load-records-spec : {M : Type 1} → f.Statement.statement M
 unfolding code.routine tablesOf
-load-text-spec 𝓤 H 𝓜 𝓖 𝓡 =
+load-records-spec 𝓤 H 𝓜 𝓖 𝓡 =
     let W = givenOf 𝓤 H 𝓜 𝓖 in
     let A = 𝓖 .A in
     let 𝓣 = tablesOf 𝓤 H 𝓜 (tables 𝓤 H 𝓜 𝓡 code.env) in
@@ -171,8 +178,8 @@ load-text-spec 𝓤 H 𝓜 𝓖 𝓡 =
     (code.unfolded 𝓤 H 𝓜 𝓡) (λ y. met 𝓤 H A W ps (pl 𝓤 H A W (𝓜 .mem) (𝓡 .run)) (y .0 .0) (y .0 .1) (y .0 .3) (y .0 .4) _ (id⊢ 𝓤 _)
     (WpFn 𝓤 H (𝓣 .C) (𝓣 .Λ) code.function) (λ kn. walk 𝓤 H A W (𝓜 .mem) (𝓡 .run) (y .0 .0) (y .0 .1) (y .0 .3) kn 𝓣
     (cited 𝓤 H _ 𝓜 𝓡 code.env begin.Symbol.name begin.Symbol.routine code.calls-tokens·begin (begin.Met.met 𝓤 H 𝓜 𝓖 𝓡))
-    (cited 𝓤 H _ 𝓜 𝓡 code.env take-lines.Symbol.name take-lines.Symbol.routine code.calls-vocabulary·lines·take-lines
-    (take-lines.Met.met 𝓤 H 𝓜 𝓖 𝓡))
+    (cited 𝓤 H _ 𝓜 𝓡 code.env take-records.Symbol.name take-records.Symbol.routine code.calls-vocabulary·records·take-records
+    (take-records.Met.met 𝓤 H 𝓜 𝓖 𝓡))
     (cited 𝓤 H _ 𝓜 𝓡 code.env refuse-line.Symbol.name refuse-line.Symbol.routine code.calls-answers·refuse-line
     (refuse-line.Met.met 𝓤 H 𝓜 𝓖 𝓡))
     (cited 𝓤 H _ 𝓜 𝓡 code.env finish.Symbol.name finish.Symbol.routine code.calls-builder·finish (finish.Met.met 𝓤 H 𝓜 𝓖 𝓡))
