@@ -1,4 +1,4 @@
--- What holds of every accepted text.
+-- What holds of every accepted source.
 pub mod Checks
 pub mod ByteStrings
 pub mod Accepted

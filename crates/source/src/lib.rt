@@ -75,7 +75,7 @@ pub fn text_of(edition: u32, partial: bool) -> How
 }
 
 // The edition of a text, 0 if there is none of that number.
-pub fn edition_of(form: Form) -> u32
+fn edition_of(form: Form) -> u32
     ensures { λ r. ⌜ formOf form ≡ vocabulary r ⌝ }
 {
     match form {
