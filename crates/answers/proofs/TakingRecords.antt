@@ -73,7 +73,7 @@ module _ (form : Source.Form) (body : List ℕ) (at : ℕ) where
   a-record end next e = a-line at end next (nextIn (formOf form) (drop at body)) (e ∙ ap (lineAt at) (next-is form (drop at body)))
 
 -- it lies in the source, and goes on
-pub record-within : (form : Form) (text : List ℕ) (at end next : ℕ) → RecordFrom at end next (nextIn form (drop at text))
+record-within : (form : Form) (text : List ℕ) (at end next : ℕ) → RecordFrom at end next (nextIn form (drop at text))
     → (at ≤ end) × (end ≤ next) × (at < next) × (next ≤ length text)
 record-within form text at end next L =
     let s = next-stays form (drop at text) (L .found) (L .is) in
@@ -84,6 +84,10 @@ record-within form text at end next L =
     let d = L .end-is in
     let e = L .next-is in
     (omega arith, omega arith, omega arith, omega arith)
+
+pub within-body : (form : Source.Form) (body : List ℕ) (at end next : ℕ) → NextLine.Line end next ≡ lineAt at (nextLine (drop at body))
+    → (at ≤ end) × (end ≤ next) × (at < next) × (next ≤ length body)
+within-body form body at end next e = record-within (formOf form) body at end next (a-record form body at end next e)
 
 -- ---- one record
 

@@ -114,8 +114,8 @@ impl<'a> Literals<'a> {
     }
 }
 
-/// Short literals: the quotes and what stands before them; insides of up to five parts, and of up to four with more, among them what
-/// other readers take for the end of a line.
+/// Short literals: the quotes and what stands before them; insides of up to five parts, all good ones and some bad, and of up to four with
+/// more parts, among them what other readers take for the end of a line; and all insides of up to four.
 pub fn short(tally: &mut Tally) {
     let mut literals = Literals::new(tally);
     let mut whole = |literal: &str| {
@@ -131,9 +131,9 @@ pub fn short(tally: &mut Tally) {
         literals.every(*kind, &[&five[..], &more[..]].concat(), 4, 4);
         literals.load();
     }
-    for (open, quote) in KINDS {
-        // With nothing before the first escape.
-        strings(&five, 3, &mut |inner| literals.alone(&format!("{open}{quote}{inner}{quote}")));
+    // Every one of up to four parts, good or bad, with nothing before the first escape; with the other quotes up to three.
+    for ((open, quote), most) in KINDS.into_iter().zip([4, 4, 3, 3]) {
+        strings(&five, most, &mut |inner| literals.alone(&format!("{open}{quote}{inner}{quote}")));
     }
 }
 

@@ -4,7 +4,7 @@ use mathlib.Core.Path.{sym, _∙_, subst}
 use native.Mathlib.Omega.{arith}
 use Rattle.source.specs.SourceAnswers.{formOf}
 use Rattle.answers.specs.Taking.{NextAs}
-use Rattle.answers.proofs.TakingRecords.{no-record, a-record, record-within, next-refused, next-none, next-record}
+use Rattle.answers.proofs.TakingRecords.{no-record, a-record, within-body, next-refused, next-none, next-record}
 use Rattle.answers.proofs.taking.read_in.Statement.{statement}
 use Rattle.answers.proofs.taking.read_in.Tie as tie
 
@@ -32,12 +32,7 @@ sub-read-record c =
     let d = c .before in
     let e = d .before .before in
     let a = e .before .before .before .before .before .args in
-    let L = a-record (a .form) (a .body .now) (a .t .at) _ _ (sym (d .end .given .1) ∙ e .next-line .ensures) in
-    let w = record-within (formOf (a .form)) (a .body .now) (a .t .at) _ _ L in
-    let w0 = w .0 in
-    let w1 = w .1 in
-    let w2 = w .2 in
-    let w3 = w .3 in
+    let w = within-body (a .form) (a .body .now) (a .t .at) _ _ (sym (d .end .given .1) ∙ e .next-line .ensures) in
     omega arith
 
 part-read-record-start : tie.Need-part-read-record-start
@@ -45,12 +40,7 @@ part-read-record-start c =
     let d = c .before in
     let e = d .before .before in
     let a = e .before .before .before .before .before .args in
-    let L = a-record (a .form) (a .body .now) (a .t .at) _ _ (sym (d .end .given .1) ∙ e .next-line .ensures) in
-    let w = record-within (formOf (a .form)) (a .body .now) (a .t .at) _ _ L in
-    let w0 = w .0 in
-    let w1 = w .1 in
-    let w2 = w .2 in
-    let w3 = w .3 in
+    let w = within-body (a .form) (a .body .now) (a .t .at) _ _ (sym (d .end .given .1) ∙ e .next-line .ensures) in
     omega arith
 
 part-read-record-end : tie.Need-part-read-record-end
@@ -58,12 +48,7 @@ part-read-record-end c =
     let d = c .before in
     let e = d .before .before in
     let a = e .before .before .before .before .before .args in
-    let L = a-record (a .form) (a .body .now) (a .t .at) _ _ (sym (d .end .given .1) ∙ e .next-line .ensures) in
-    let w = record-within (formOf (a .form)) (a .body .now) (a .t .at) _ _ L in
-    let w0 = w .0 in
-    let w1 = w .1 in
-    let w2 = w .2 in
-    let w3 = w .3 in
+    let w = within-body (a .form) (a .body .now) (a .t .at) _ _ (sym (d .end .given .1) ∙ e .next-line .ensures) in
     omega arith
 
 read-record-requires : tie.Need-read-record-requires
@@ -74,12 +59,7 @@ record-read-requires c κs =
     let d = c .before .before .before .before .before .before in
     let e = d .before .before in
     let a = e .before .before .before .before .before .args in
-    let L = a-record (a .form) (a .body .now) (a .t .at) _ _ (sym (d .end .given .1) ∙ e .next-line .ensures) in
-    let w = record-within (formOf (a .form)) (a .body .now) (a .t .at) _ _ L in
-    let w0 = w .0 in
-    let w1 = w .1 in
-    let w2 = w .2 in
-    let w3 = w .3 in
+    let w = within-body (a .form) (a .body .now) (a .t .at) _ _ (sym (d .end .given .1) ∙ e .next-line .ensures) in
     let p = e .before .before .before .before .before .pre .1 in
     omega arith
 
