@@ -230,7 +230,8 @@ def cases():
     for byte in range(128, 256):
         yield "L", b"b'\\" + bytes([byte]) + b"'"
     # quotes
-    for text in (b"", b"'", b'"', b"b", b"b'", b"''", b'""', b"b''", b"'a\"", b"\"a'", b"'''", b"'a'b'", b"'a\"b'", b"bb'a'", b"B'a'", b"u'a'",
+    for text in (b"", b"'", b'"', b"b", b"b'", b"''", b'""', b"b''", b"'a\"", b"\"a'", b"'''", b"'a'b'", b"'a\"b'", b"bb'a'", b"B'a'",
+                 b"u'a'",
                  b" 'a'", b"'a' ", b"'\\'", b"'\\\\'", b"'\\''", b"'\r'", b"'\0'", b"'\n'", b"'\x7f'", b"b'\x7f'", b"b'\x80'"):
         yield "L", text
     # the edges of the code points

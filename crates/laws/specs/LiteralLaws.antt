@@ -11,7 +11,7 @@ use lib.Dec.{leb, ltb, lit≤, lit<}
 use borrow.Author.Tests.{leb-true, le-ltb}
 use Rattle.spec.specs.Utf8.{_to_, within, utf8Of}
 use Rattle.spec.specs.Digits.{digitsAfter, atMost, digits, hexDigit, hexAfter, hexRun, octalDigit, Octal, oneMore, octalAfter, octalRun}
-use Rattle.spec.specs.Literal.{escaped, pointEscape, read, literal}
+use Rattle.spec.specs.Literal.{escaped, pointEscape}
 use Rattle.laws.specs.Tests.{and-l, and-r}
 
 -- a number within a range lies between its ends
@@ -144,12 +144,3 @@ four-digits inB s = go (hexRun 4 s) refl
         ≡ escaped 5 (bind o (λ v. cond (inB || within (0xD800 to 0xDFFF) v) none (some (utf8Of v))))
     go none e = refl
     go (some v) e = let h = hex-run-lt 4 v s e in rw (le-ltb 0x10FFFF v (omega arith), or-false)
-
--- What a good literal stands for is what was read of it.
-pub literal-read : (edition : ℕ) (s bs : List ℕ) → literal edition s ≡ some bs → read edition s .bytes ≡ bs
-unfolding literal
-literal-read edition s bs e = go (read edition s .good) e
-  where
-    go : (c : Bool) → cond c (some (read edition s .bytes)) none ≡ some bs → read edition s .bytes ≡ bs
-    go true q = Option·some-injective (read edition s .bytes) bs q
-    go false q = absurd (Option·none-ne-some bs q)

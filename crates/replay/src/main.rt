@@ -1,6 +1,7 @@
 // Runs the cases of standard input, one to a line, through the calls that a Rust or C program links, and writes what each answers: the
 // number and the report, then what was made. A case is a letter for what is asked, a space, and bytes in hexadecimal:
-//   L  load: 1 for partial and 2 for each edition above the first, node room (2 bytes, the high one first), blob room (2), blocks of the table, blocks of the marks, the text
+//   L  load: 1 for partial and 2 for each edition above the first, node room (2 bytes, the high one first), blob room (2), blocks of the
+//      table, blocks of the marks, the text
 //   E  encode: room for ids, the input
 //   D, U, Y  decode to bytes, to text, to lossy text: room for bytes, ids of three bytes
 // Before all these stands a byte: 0, or 1, 2, 3 for memory with one cell too few of `single`, offsets, roots. After a load a sum over
