@@ -1,4 +1,6 @@
 // What a load answers and what it leaves: the counts of an accepted one, or the number and place of a refusal, and the memory after either.
+#![tactic(auto)]
+
 pub mod taking;
 
 ghost use Rattle.std.specs.Prelude.{◌≡◌};
@@ -10,7 +12,7 @@ use source::{LoadRefusal, Place};
 use tokens::Build;
 
 // How many tokens, nodes (node 0 counted), blob bytes and table words an accepted load has.
-#[derive(Drop)]
+#[derive(Clone, Copy)]
 pub struct Counts {
     pub tokens: u32,
     pub nodes: u32,
@@ -19,7 +21,7 @@ pub struct Counts {
 }
 
 // What a load answers.
-#[derive(Drop)]
+#[derive(Clone, Copy)]
 pub enum Load {
     Accepted(Counts),
     Refused(LoadRefusal),

@@ -11,7 +11,7 @@ use tokens::{Build, Pushed};
 // How far the taking of a source's records is: the tokens taken; whether the record that was read last states a token that is yet to be
 // taken, its id and how many bytes of it stand in the cells lent; where the record after that starts, how many were read (a record of a
 // text is a line), and document 01's number of the last one's refusal, 0 if it has none.
-#[derive(Drop)]
+#[derive(Clone, Copy)]
 pub struct Taking {
     pub build: Build,
     pub takes: bool,

@@ -1,4 +1,6 @@
 // The builder: tokens into the vocabulary memory, one after another.
+#![tactic(auto)]
+
 
 ghost use Rattle.std.specs.Prelude.{◌≡◌, List, [], ℕ, ◌≤◌, ◌<◌, length, take};
 ghost use Rattle.spec.specs.Token.{Token};

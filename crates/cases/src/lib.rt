@@ -1,4 +1,6 @@
 // For programs that run cases of standard input: bytes in hexadecimal and the ids that they spell, and how answers are written.
+#![tactic(auto)]
+
 ghost use Rattle.std.specs.Prelude.{◌≤◌, length};
 
 use libc::STDOUT_FILENO;

@@ -1,5 +1,7 @@
 // Runs of cells and widths of numbers, for every crate: a number in another width, one value in a run of cells, bytes from one slice to
 // another.
+#![tactic(auto)]
+
 ghost use Rattle.std.specs.Prelude.{◌≡◌, ◌+◌, ◌-◌, ◌^◌, ◌≤◌, ◌<◌, min, max, pos, negsuc, length, drop, replicate};
 ghost use Rattle.std.proofs.lemmas.List.Edits.{sets};
 ghost use Rattle.std.proofs.Math.Seq.{paste};

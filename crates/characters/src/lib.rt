@@ -1,5 +1,7 @@
 // Characters: the code point of one's bytes, the bytes of a code point, White_Space and blank lines. Every public function takes any
 // input, and its contract is an equation with a definition of `spec`.
+#![tactic(auto)]
+
 ghost use Rattle.std.specs.Prelude.{◌≡◌, [], ◌∷◌, ◌+◌, ◌/◌, ◌%◌, ◌≤◌, length, take, drop};
 ghost use Rattle.spec.specs.Utf8.{utf8_of, point_of, white_space, blank};
 ghost use Rattle.characters.specs.CharacterBytes.{encoded_as};
@@ -75,7 +77,7 @@ pub fn is_blank(line: &[u8]) -> bool
 }
 
 // The bytes of a character: `len` of them, and zeros.
-#[derive(Drop)]
+#[derive(Clone, Copy)]
 pub struct Encoded {
     pub bytes: [u8; 4],
     pub len: usize,

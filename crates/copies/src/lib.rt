@@ -1,4 +1,6 @@
 // Copies from one slice to another: eight bytes at a time, and a token, which may go past its own end where later tokens will stand.
+#![tactic(auto)]
+
 ghost use Rattle.std.specs.Prelude.{◌≡◌, ◌+◌, ◌≤◌, length, take, drop};
 ghost use Rattle.std.proofs.Math.Seq.{paste};
 ghost use Rattle.copies.specs.Copy.{Placed};

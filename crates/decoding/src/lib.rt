@@ -1,4 +1,6 @@
 // Decoding ids on any vocabulary memory: the lookup of a token, decoding to bytes and to text.
+#![tactic(auto)]
+
 ghost use Rattle.std.specs.Prelude.{◌≡◌, ◌+◌, ◌-◌, ◌<◌, ◌≤◌, length, take, get_or};
 ghost use Rattle.spec.specs.Lists.{each, over};
 ghost use Rattle.spec.specs.Memory.{memory};
@@ -8,7 +10,7 @@ ghost use Rattle.decoding.specs.Span.{span_of, span_bytes};
 ghost use Rattle.decoding.specs.Measured.{tokens, Joined, Measured};
 
 // Where the bytes of an id's token stand in the blob, or that the id has none.
-#[derive(Drop)]
+#[derive(Clone, Copy)]
 pub enum Span {
     Token { start: usize, len: usize },
     Absent,
@@ -45,7 +47,7 @@ pub fn lookup(offsets: &[u32], blob: &[u8], id: u32) -> Span
 }
 
 // How a decoding ends. Each case with the bytes that stand from the output's start.
-#[derive(Drop)]
+#[derive(Clone, Copy)]
 pub enum Decoded {
     Whole { len: usize },
     // number 1
@@ -83,7 +85,7 @@ fn measure(offsets: &[u32], blob: &[u8], ids: &[u32], room: usize) -> Decoded
 }
 
 // Where a token's bytes stand in the blob.
-#[derive(Drop)]
+#[derive(Clone, Copy)]
 pub struct Part {
     pub start: usize,
     pub len: usize,

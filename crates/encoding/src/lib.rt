@@ -1,4 +1,6 @@
 // Whole encoding, on any vocabulary memory. The contract is an equation with a definition of `spec`.
+#![tactic(auto)]
+
 ghost use Rattle.std.specs.Prelude.{length};
 ghost use Rattle.spec.specs.Memory.{memory};
 ghost use Rattle.spec.specs.Encode.{encode_on};
@@ -7,7 +9,7 @@ ghost use Rattle.encoding.specs.Answers.{Answered};
 use matching::Match;
 
 // What an encoding answers: the input's end, number 1, number 22 and number 23.
-#[derive(Drop)]
+#[derive(Clone, Copy)]
 pub enum Encoded {
     Whole {
         count: usize,

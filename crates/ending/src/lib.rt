@@ -1,4 +1,6 @@
 // The end of a build: what it lacks, 19 to 21; and the offsets behind the last id. No function here is lent the nodes.
+#![tactic(auto)]
+
 ghost use Rattle.std.specs.Prelude.{◌≡◌, not, List, ℕ, ◌≤◌, T, length};
 ghost use Rattle.std.proofs.Math.Option.{none};
 ghost use Rattle.spec.specs.Token.{Token};
@@ -10,7 +12,7 @@ ghost use Rattle.ending.specs.EndOfBuild.{SingleOf, missing_of, FinishedAs, fini
 use tokens::Build;
 
 // A byte without a one-byte token, or none.
-#[derive(Drop)]
+#[derive(Clone, Copy)]
 pub enum Missing {
     Byte(u8),
     Nothing,
@@ -52,7 +54,7 @@ pub fn set_total(offsets: &mut [u32], previous: u16, total: u32)
 }
 
 // The end of a build: packed, with the table's words; or 19, 20 with the lowest byte that is wanting, or 21.
-#[derive(Drop)]
+#[derive(Clone, Copy)]
 pub enum Finished {
     Packed(u32),
     NoTokens,
@@ -61,7 +63,7 @@ pub enum Finished {
 }
 
 // Why a build cannot end well before it is packed, or nothing.
-#[derive(Drop)]
+#[derive(Clone, Copy)]
 pub enum Stop {
     NoTokens,
     Wanting(u8),

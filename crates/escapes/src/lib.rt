@@ -1,5 +1,7 @@
 // What stands at a place inside the quotes of a Python literal: a byte as it is, or an escape. An answer is an enum, and a contract says
 // by a definition of `spec` that it is what the documents say. Any bytes may be given.
+#![tactic(auto)]
+
 ghost use Rattle.std.specs.Prelude.{◌≡◌, ◌≤◌, ◌<◌, length, drop, get_or};
 ghost use Rattle.spec.specs.Literal.{byte_escape, point_escape, escape, octal_escape, escape2, escapes_of, piece_at};
 ghost use Rattle.escapes.specs.Answers.{piece_of};
@@ -7,7 +9,7 @@ ghost use Rattle.escapes.specs.Answers.{piece_of};
 use numbers::Number;
 
 // What stands at a place inside the quotes: a byte or the UTF-8 of a code point, and how many bytes behind the first belong to it.
-#[derive(Drop)]
+#[derive(Clone, Copy)]
 pub enum Piece {
     Byte(u8, usize),
     Point(u32, usize),

@@ -3,6 +3,8 @@
 // line, T the lines of a text, I an id, N a length, H a byte as a hexadecimal digit, U the beginning of a byte string that is UTF-8, S the
 // same for a beginning and each last byte; B an edition and a text, for what a load refuses before any line; D, X and Y ids to decode to
 // bytes, text and lossy text. `cases.py` makes the cases and, by Python's own means, the answers.
+#![tactic(auto)]
+
 use cases::{unhex, write, write_bytes, write_number};
 use libc::STDIN_FILENO;
 use line::{Fields, NextLine};

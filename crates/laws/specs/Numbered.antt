@@ -30,7 +30,7 @@ unfoldable pub number : List (List ℕ) → List ℕ → ℕ
 unfolding place_of
 number ps p = suc (place_of ps p)
 
-pub place_lt : {ps : List (List ℕ)} {p : List ℕ} → Mem p ps → place_of ps p < length ps
+pub place_lt : {p : List ℕ} {ps : List (List ℕ)} → Mem p ps → place_of ps p < length ps
 unfolding place_of
 place_lt {p} (here {x = q} {xs = ps} e) = go (same p q) (ap (same p) (sym e) ∙ same_refl p)
   where
@@ -43,7 +43,7 @@ place_lt {p} (there {x = q} {xs = ps} m) = go (same p q) (place_lt m)
     go true h = omega arith
     go false h = omega arith
 
-pub at_place : {ps : List (List ℕ)} {p : List ℕ} → Mem p ps → get_or ps (place_of ps p) [] ≡ p
+pub at_place : {p : List ℕ} {ps : List (List ℕ)} → Mem p ps → get_or ps (place_of ps p) [] ≡ p
 unfolding place_of
 at_place {p} (here {x = q} {xs = ps} e) =
     ap (λ (c : Bool). get_or (q ∷ ps) (cond c zero (suc (place_of ps p))) []) (ap (same p) (sym e) ∙ same_refl p) ∙ sym e
@@ -54,7 +54,7 @@ at_place {p} (there {x = q} {xs = ps} m) = go (same p q) refl (at_place m)
     go false h r = r
 
 -- a number once given stays, and a new node has the next
-pub place_stays : {ps : List (List ℕ)} {p : List ℕ} (r : List (List ℕ)) → Mem p ps → place_of (ps ++ r) p ≡ place_of ps p
+pub place_stays : {p : List ℕ} {ps : List (List ℕ)} (r : List (List ℕ)) → Mem p ps → place_of (ps ++ r) p ≡ place_of ps p
 unfolding place_of
 place_stays {p} r (here {x = q} {xs = ps} e) = go (same p q) (ap (same p) (sym e) ∙ same_refl p)
   where

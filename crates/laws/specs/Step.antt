@@ -32,7 +32,7 @@ unfolding fold put
 put_keeps L [] xs m = m
 put_keeps L (p ∷ ps) xs m = put_keeps L ps (put L xs p) (there m)
 
-put_has : (L : List ℕ → List ℕ) (xs : List Put) {p : List ℕ} {ps : List (List ℕ)} → Mem p ps
+put_has : (L : List ℕ → List ℕ) {p : List ℕ} (xs : List Put) {ps : List (List ℕ)} → Mem p ps
     → (x : Put) × Mem x (fold (put L) xs ps) × (x.node ≡ p)
 unfolding fold put
 put_has L xs (here {x = q} {xs = ps} e) = (_, put_keeps L ps (put L xs q) (here refl), sym e)

@@ -13,7 +13,7 @@ use Rattle.laws.specs.Tests.{same-eq, same_refl}
 
 -- ---- bytes
 
-pub byte_at : {s : List ℕ} {b : ℕ} → Bytes s → Mem b s → b < 256
+pub byte_at : {b : ℕ} {s : List ℕ} → Bytes s → Mem b s → b < 256
 byte_at h (here e) = subst (λ (z : ℕ). z < 256) (sym e) h.0
 byte_at h (there m) = byte_at h.1 m
 

@@ -1,5 +1,7 @@
 // The lines of a text and the fields of a line, with refusals 3 to 6 and 11. The id, the literal and the length are parts of the line;
 // whoever reads a line takes them one by one, since refusals 7 to 10 stand between them.
+#![tactic(auto)]
+
 ghost use Rattle.std.specs.Prelude.{◌≡◌, ◌+◌, ◌-◌, ◌≤◌, length, take, drop};
 ghost use Rattle.spec.specs.Check.{pass, given};
 ghost use Rattle.spec.specs.Digits.{digits};
@@ -8,7 +10,7 @@ ghost use Rattle.laws.specs.LineWalk.{before_lf, next_line};
 ghost use Rattle.line.specs.Answers.{line_at, space_of, fields_of, Within, id_of, length_of};
 
 // A line of a text, up to `end`, and where the next one starts; or that there is none.
-#[derive(Drop)]
+#[derive(Clone, Copy)]
 pub enum NextLine {
     Line { end: usize, next: usize },
     Nothing,
@@ -61,7 +63,7 @@ pub fn next_line(text: &[u8], from: usize) -> NextLine
 }
 
 // A place in a line, or that there is none.
-#[derive(Drop)]
+#[derive(Clone, Copy)]
 pub enum Space {
     At(usize),
     Nowhere,
@@ -97,7 +99,7 @@ pub fn last_space(line: &[u8]) -> Space
 
 // The fields of a line, by its first and last space: the id before the first, the literal between them, the length after the last. Or
 // why it has none: refusal 3, 4 or 5.
-#[derive(Drop)]
+#[derive(Clone, Copy)]
 pub enum Fields {
     Found { first: usize, last: usize },
     Blank,
@@ -132,7 +134,7 @@ pub fn split_fields(line: &[u8]) -> Fields
 }
 
 // The id of a line, or refusal 6.
-#[derive(Drop)]
+#[derive(Clone, Copy)]
 pub enum Id {
     Value(u32),
     Bad,
@@ -149,7 +151,7 @@ pub fn read_id(part: &[u8]) -> Id
 }
 
 // The length that a line declares, or refusal 11.
-#[derive(Drop)]
+#[derive(Clone, Copy)]
 pub enum Length {
     Value(u64),
     Bad,

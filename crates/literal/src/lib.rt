@@ -1,5 +1,7 @@
 // Python literals: the bytes that one stands for. An answer is an enum, and a contract says by a definition of `spec` that it is what
 // the documents say. Any bytes may be given.
+#![tactic(auto)]
+
 ghost use Rattle.std.specs.Prelude.{◌≡◌, ◌+◌, ◌^◌, ◌<◌, length, set};
 ghost use Rattle.std.proofs.Math.Option.{map};
 ghost use Rattle.std.proofs.lemmas.List.Edits.{sets};
@@ -10,7 +12,7 @@ ghost use Rattle.literal.specs.Answers.{length_of, stored, ended, left};
 use escapes::Piece;
 
 // What a literal's reader answers: how many bytes the literal stands for, or that it is bad.
-#[derive(Drop)]
+#[derive(Clone, Copy)]
 pub enum Literal {
     Length(usize),
     Bad,

@@ -1,5 +1,7 @@
 // Lossy decoding in three passes: every id for its token, the size of the text, the text. No memory is lent for the joined bytes, so
 // the last two read them token by token, with the bytes of a character that one token begins and another ends held between.
+#![tactic(auto)]
+
 ghost use Rattle.std.specs.Prelude.{◌≡◌, ◌+◌, ◌<◌, ◌≤◌, T, length, take, drop};
 ghost use Rattle.spec.specs.Lists.{each, over};
 ghost use Rattle.spec.specs.Utf8.{lossy};
@@ -29,14 +31,14 @@ fn first_absent(offsets: &[u32], blob: &[u8], ids: &[u32]) -> usize
 }
 
 // What is held after some bytes, and the length of the text that they have given.
-#[derive(Drop)]
+#[derive(Clone, Copy)]
 struct Progress {
     held: Held,
     len: usize,
 }
 
 // What len bytes more lead to, or that the text is then longer than room.
-#[derive(Drop)]
+#[derive(Clone, Copy)]
 enum Growth {
     To(Progress),
     Over,
@@ -93,7 +95,7 @@ fn size_token(blob: &[u8], start: usize, len: usize, from: Progress, room: usize
 }
 
 // The length of a text, or that it is longer than the room for it.
-#[derive(Drop)]
+#[derive(Clone, Copy)]
 enum Size {
     Fits(usize),
     Exceeds,

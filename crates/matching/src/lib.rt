@@ -1,5 +1,7 @@
 // The longest match at a place of the input, on any vocabulary memory. Each public contract is an equation with a definition of `spec`;
 // where a function is not given a part of the memory, the equation holds whatever that part is.
+#![tactic(auto)]
+
 ghost use Rattle.std.specs.Prelude.{◌≡◌, List, [], ◌∷◌, ℕ, ◌+◌, ◌≤◌, ◌<◌, min, ℤ, pos, length, drop, get_or};
 ghost use Rattle.std.proofs.Math.Seq.{slice};
 ghost use Rattle.spec.specs.Memory.{memory};
@@ -7,7 +9,7 @@ ghost use Rattle.spec.specs.Match.{id_in, base_in, no_walk, onto, enter, walk_on
 ghost use Rattle.matching.specs.Answers.{walk_of, trail_of, match_of, child};
 
 // What a walk from a place of the input found: the last token passed (length 0: none), the bytes it used and the base it ended with.
-#[derive(Drop)]
+#[derive(Clone, Copy)]
 pub struct Walk {
     pub id: u32,
     pub len: usize,
@@ -16,7 +18,7 @@ pub struct Walk {
 }
 
 // The same walk while it goes, by its words: the last one with an id, and the last. Its length counts only where there is an id.
-#[derive(Drop)]
+#[derive(Clone, Copy)]
 struct Trail {
     best: u64,
     len: usize,
@@ -25,7 +27,7 @@ struct Trail {
 }
 
 // A token's id and length, or none.
-#[derive(Drop)]
+#[derive(Clone, Copy)]
 pub enum Match {
     Found { id: u32, len: usize },
     Nothing,

@@ -1,5 +1,7 @@
 // Vocabulary memory: number 1, which every entry that is given it tests before all else, and the place of a root. The memory is lent as
 // five slices; two of them, blob and table, may have any length.
+#![tactic(auto)]
+
 ghost use Rattle.std.specs.Prelude.{◌≡◌, List, ℕ, ◌+◌, ◌*◌, ◌<◌};
 ghost use Rattle.spec.specs.Memory.{memory, too_short};
 

@@ -1,11 +1,13 @@
 // Numbers in decimal, hexadecimal and octal digits. A contract says by a definition of `spec` that the answer is the number that the
 // documents say. Any bytes may be given.
+#![tactic(auto)]
+
 ghost use Rattle.std.specs.Prelude.{◌≡◌, ◌≤◌};
 ghost use Rattle.spec.specs.Digits.{digits, hex_digit, hex_run, octal_run};
 ghost use Rattle.numbers.specs.Answers.{number_of, octal_of};
 
 // A number, or that the bytes are none.
-#[derive(Drop)]
+#[derive(Clone, Copy)]
 pub enum Number {
     Value(u64),
     Bad,
@@ -77,7 +79,7 @@ pub fn hex_run(text: &[u8], count: usize) -> Number
 }
 
 // A number in octal digits, and how many digits it has.
-#[derive(Drop)]
+#[derive(Clone, Copy)]
 pub struct Octal {
     pub value: u32,
     pub count: usize,

@@ -1,5 +1,7 @@
 // The packing of a trie: each node with children gets a base, so that its children's words stand at base XOR label, no two at one slot.
 // Where roots and nodes stand for tokens, what is left in roots and table is the layout of these tokens.
+#![tactic(auto)]
+
 ghost use Rattle.std.specs.Prelude.{◌≡◌, List, ℕ, ◌+◌, ◌-◌, ◌*◌, ◌^◌, ◌<◌, ◌≤◌, length};
 ghost use Rattle.spec.specs.Token.{Token, id_of};
 ghost use Rattle.spec.specs.Trie.{nodes as nodesOf, node_count};

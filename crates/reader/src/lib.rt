@@ -1,5 +1,7 @@
 // A reader of lossy text that takes one byte at a time. Every public function takes any input, and its contract is an equation with a
 // definition of specs/; that what goes out is the lossy text is `lossy-run` in proofs/ReaderLaws.antt.
+#![tactic(auto)]
+
 ghost use Rattle.std.specs.Prelude.{◌≡◌, [], ◌∷◌, ◌++◌, ◌-◌, ◌≤◌, ◌<◌, replicate};
 ghost use Rattle.spec.specs.Utf8.{tail, replacement};
 ghost use Rattle.reader.specs.Reader.{start, broken, taken, wants, push_of, finish_of};
@@ -8,7 +10,7 @@ ghost use Rattle.reader.specs.HeldBytes.{want_means, held_of, held_as, bringing,
 use utf8::Lead;
 
 // The bytes of a character that has begun: the first `len` of the three, zeros after. A `len` above 3 counts as 3.
-#[derive(Drop)]
+#[derive(Clone, Copy)]
 pub struct Held {
     pub first: u8,
     pub second: u8,
@@ -17,7 +19,7 @@ pub struct Held {
 }
 
 // What a byte brings: `len` bytes to write out, zeros after, and what is held from then on.
-#[derive(Drop)]
+#[derive(Clone, Copy)]
 pub struct Pushed {
     pub bytes: [u8; 6],
     pub len: usize,

@@ -7,6 +7,8 @@
 // Before all these stands a byte: 0, or 1, 2, 3 for memory with one cell too few of `single`, offsets, roots. After a load a sum over
 // offsets, blob, roots and table is written, and at the end how many cases gave each number.
 // `cases.rs` makes the cases, and the answers by the Rust crate that this is a port of, where it has them.
+#![tactic(auto)]
+
 mod sums;
 
 ghost use Rattle.std.specs.Prelude.{◌<◌, ◌≤◌, length};

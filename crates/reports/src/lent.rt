@@ -34,7 +34,7 @@ fn numbered(answer: stream_record::Answer) -> Answer
 }
 
 // What a call by value leaves: its number and the stream.
-#[derive(Drop)]
+#[derive(Clone, Copy)]
 pub struct Left {
     pub number: u32,
     pub stream: Stream,

@@ -8,7 +8,7 @@ use answers::Load;
 use source::Place;
 
 // A number of document 01, 0 if none, and the six cells of a load's report.
-#[derive(Drop)]
+#[derive(Clone, Copy)]
 pub struct Answer {
     pub number: u32,
     pub cells: [u64; 6],

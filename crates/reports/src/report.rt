@@ -4,7 +4,7 @@ ghost use Rattle.spec.specs.Answer as spec;
 ghost use Rattle.reports.specs.Report.{answer_is, report_of};
 
 // A number of document 01, 0 if none, and its values.
-#[derive(Drop)]
+#[derive(Clone, Copy)]
 pub struct Answer {
     pub number: u32,
     pub count: u64,

@@ -9,11 +9,13 @@ use Rattle.spec.specs.Token.{Token, bytes_of, joined, present}
 use Rattle.spec.specs.Valid.{Rising, Valid}
 
 pub rising_above : (low : ℕ) (ts : List Token) → Rising low ts → (t : Token) → Mem t ts → low < t.id
+rising_above low [] r t m = elim m [ ]
 rising_above low (x ∷ ts) r t (here p) = omega (arith, ap (λ (t : Token). t.id) p)
 rising_above low (x ∷ ts) r t (there m) = omega (arith, rising_above x.id ts r.1 t m)
 
 -- a token is told by its id
 rising_tells : (low : ℕ) (ts : List Token) → Rising low ts → (t u : Token) → Mem t ts → Mem u ts → t.id ≡ u.id → t ≡ u
+rising_tells low [] r t u m _ e = elim m [ ]
 rising_tells low (x ∷ ts) r t u (here p) (here q) e = p ∙ sym q
 rising_tells low (x ∷ ts) r t u (here p) (there m) e =
     absurd (omega (arith, rising_above x.id ts r.1 u m, ap (λ (t : Token). t.id) p))
@@ -26,6 +28,7 @@ ids_tell ts v = rising_tells 0 ts v.rising
 
 rising_bytes : (low : ℕ) (ts : List Token) → Rising low ts → (t : Token) → Mem t ts → bytes_of ts t.id ≡ t.bytes
 unfolding bytes_of
+rising_bytes low [] r t m = elim m [ ]
 rising_bytes low (x ∷ ts) r t (here p) =
     rw (eq-eqb x.id t.id (ap (λ (t : Token). t.id) (sym p)), bytes_of) (ap (λ (t : Token). t.bytes) (sym p))
 rising_bytes low (x ∷ ts) r t (there m) =
@@ -38,6 +41,7 @@ bytes_of_token ts v = rising_bytes 0 ts v.rising
 
 pub present-token : (ts : List Token) (t : Token) → Mem t ts → present ts t.id ≡ true
 unfolding present any
+present-token [] t m = elim m [ ]
 present-token (x ∷ ts) t (here p) = rw (eq-eqb x.id t.id (ap (λ (t : Token). t.id) (sym p)))
 present-token (x ∷ ts) t (there m) = go (eqb x.id t.id) (present-token ts t m)
   where

@@ -64,6 +64,7 @@ best (t ∷ ts) s = best-pick t ts s (fit t.bytes s) refl (longest ts s) (best t
 
 -- a token is told by its bytes
 pub bytes_tell : (ts : List Token) → Distinct ts → (t u : Token) → Mem t ts → Mem u ts → t.bytes ≡ u.bytes → t ≡ u
+bytes_tell [] d t u m _ e = elim m [ ]
 bytes_tell (x ∷ ts) d t u (here p) (here q) e = p ∙ sym q
 bytes_tell (x ∷ ts) d t u (here p) (there m) e = absurd (d.0 u m (ap (λ (t : Token). t.bytes) (sym p) ∙ e))
 bytes_tell (x ∷ ts) d t u (there m) (here q) e = absurd (d.0 t m (sym (e ∙ ap (λ (t : Token). t.bytes) q)))
@@ -132,6 +133,7 @@ neither false b e = (refl, e)
 
 proper_none : (ts : List Token) (s : List ℕ) → proper_prefix ts s ≡ false → (u : Token) → Mem u ts → fit u.bytes s ≢ short
 unfolding proper_prefix any
+proper_none [] s e u m = elim m [ ]
 proper_none (t ∷ ts) s e u (here p) =
     rw p (is_short-false (fit t.bytes s) (neither (is_short (fit t.bytes s)) (proper_prefix ts s) e).0)
 proper_none (t ∷ ts) s e u (there m) = proper_none ts s (neither (is_short (fit t.bytes s)) (proper_prefix ts s) e).1 u m

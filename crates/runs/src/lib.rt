@@ -1,5 +1,7 @@
 // A run over a stretch of a stream's bytes: every id that later bytes cannot change, as far as the memory decides. Each contract is an
 // equation with a definition of `spec`, whatever memory holds; a part of it that a function is not given may be anything.
+#![tactic(auto)]
+
 ghost use Rattle.std.specs.Prelude.{◌≡◌, List, ℕ, ◌+◌, ◌-◌, ◌≤◌, ◌<◌, ℤ, length, drop};
 ghost use Rattle.spec.specs.Memory.{memory};
 ghost use Rattle.spec.specs.Match.{undecided_on};
@@ -28,7 +30,7 @@ fn undecided_at(roots: &[u64], table: &[u64], src: &[u8], i: usize) -> bool
 }
 
 // How a run over a stretch ends: past it, at a place where it waits, or at one where no token matches; and the ids written.
-#[derive(Drop)]
+#[derive(Clone, Copy)]
 pub enum Ran {
     Through { at: usize, count: usize },
     Waiting { at: usize, count: usize },

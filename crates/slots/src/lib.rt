@@ -1,5 +1,7 @@
 // Marks of slots and bases, and the slots of the nodes: each node with labels gets the smallest slot at which no child's slot is taken and
 // no base is used twice. What is placed so far is known by the marks alone: no function here is lent the nodes.
+#![tactic(auto)]
+
 ghost use Rattle.std.specs.Prelude.{◌≡◌, List, ℕ, ◌*◌, ◌≤◌, min, length, take};
 ghost use Rattle.spec.specs.Layout.{Put};
 ghost use Rattle.spec.specs.Load.{table_room};
@@ -9,7 +11,7 @@ ghost use Rattle.slots.specs.Going.{Going, PlacedOr, passed_on};
 pub mod search;
 
 // What placing a node answers.
-#[derive(Drop)]
+#[derive(Clone, Copy)]
 pub enum Placed {
     // The node's base.
     At(usize),
@@ -18,7 +20,7 @@ pub enum Placed {
 }
 
 // How far the placing is: the first word of marks that is not full, the highest block used, and whether a node found no slot.
-#[derive(Drop)]
+#[derive(Clone, Copy)]
 pub struct Front {
     pub from: usize,
     pub high: usize,

@@ -1,5 +1,7 @@
 // What a load is given, a source of some form and lent memory: the refusals that are told before any record is read; the reading of one
 // record; and where a refusal was met.
+#![tactic(auto)]
+
 pub mod read;
 pub mod rules;
 
@@ -10,7 +12,7 @@ ghost use Rattle.spec.specs.Load as spec;
 ghost use Rattle.source.specs.SourceAnswers.{form_of, known, is_edition, place_of, starts_with, start_is};
 
 // The form of a source: a vocabulary text of edition 1 or 2, or of an edition that there is not.
-#[derive(Drop)]
+#[derive(Clone, Copy)]
 pub enum Form {
     Edition1,
     Edition2,
@@ -18,14 +20,14 @@ pub enum Form {
 }
 
 // What is asked of a load: the form of its source, and whether bytes may lack a one-byte token.
-#[derive(Drop)]
+#[derive(Clone, Copy)]
 pub struct How {
     pub form: Form,
     pub partial: bool,
 }
 
 // What a load goes by that is not refused at once: the form and the mode, and how many bytes of the source hold its records.
-#[derive(Drop)]
+#[derive(Clone, Copy)]
 pub struct Plan {
     pub form: Form,
     pub partial: bool,
@@ -33,7 +35,7 @@ pub struct Plan {
 }
 
 // Where a refusal was met.
-#[derive(Drop)]
+#[derive(Clone, Copy)]
 pub enum Place {
     Nowhere,
     Line(usize),
@@ -42,14 +44,14 @@ pub enum Place {
 }
 
 // Document 01's number of a refusal, and its place.
-#[derive(Drop)]
+#[derive(Clone, Copy)]
 pub struct LoadRefusal {
     pub number: u8,
     pub place: Place,
 }
 
 // How a load starts: the number of a refusal, 0 if there is none, and its place; and the plan.
-#[derive(Drop)]
+#[derive(Clone, Copy)]
 pub struct Start {
     pub number: u8,
     pub place: Place,

@@ -9,7 +9,7 @@ ghost use Rattle.source.specs.SourceAnswers.{form_of, read_of, Short};
 use crate::{Form, edition_of, rules};
 
 // A token's id and how many bytes of it stand in the cells lent, or document 01's number of the refusal.
-#[derive(Drop)]
+#[derive(Clone, Copy)]
 pub enum Read {
     Found(u16, usize),
     Refused(u8),

@@ -1,6 +1,8 @@
 // The running encoder: a stream takes a transmission piece by piece and hands out each id as soon as no later byte can change it.
 // Each public contract is an equation with a definition of `spec`, whatever memory and record hold; where a function is not given a part
 // of the memory, the equation holds whatever that part is.
+#![tactic(auto)]
+
 ghost use Rattle.std.specs.Prelude.{◌≡◌, List, [], ◌++◌, ℕ, ◌+◌, ◌-◌, ◌≤◌, min, length, take};
 ghost use Rattle.spec.specs.Memory.{memory};
 ghost use Rattle.spec.specs.Stream as spec;

@@ -1,5 +1,7 @@
 // The record of a stream between two calls: a fresh one, what a call leaves of it, and the refusals of a call, each by a definition of
 // `spec`, whatever the record holds.
+#![tactic(auto)]
+
 ghost use Rattle.std.specs.Prelude.{◌≡◌, List, ℕ, ◌≤◌, length};
 ghost use Rattle.spec.specs.Memory.{padded};
 ghost use Rattle.spec.specs.Stream as spec;
@@ -14,7 +16,7 @@ pub const ENDED: u8 = 2;
 
 // A stream between two calls: the bytes taken in all, those from the first undecided position on, and where it stopped.
 #[repr(C)]
-#[derive(Drop)]
+#[derive(Clone, Copy)]
 pub struct Stream {
     pub total: u32,
     pub stop_offset: u32,
@@ -25,7 +27,7 @@ pub struct Stream {
 }
 
 // What a call answers: ids handed out, or numbers 1, 26, 25, 24 and 22 (new or repeated).
-#[derive(Drop)]
+#[derive(Clone, Copy)]
 pub enum Answer {
     Taken { count: usize },
     ShortMemory,
@@ -36,7 +38,7 @@ pub enum Answer {
 }
 
 // A call's answer and the record that it leaves.
-#[derive(Drop)]
+#[derive(Clone, Copy)]
 pub struct Called {
     pub stream: Stream,
     pub answer: Answer,
@@ -57,7 +59,7 @@ pub fn fresh() -> Stream
 }
 
 // A call is refused with an answer, or it goes through.
-#[derive(Drop)]
+#[derive(Clone, Copy)]
 pub enum Refusal {
     None,
     By(Answer),

@@ -1,6 +1,8 @@
 // Runs streams over the memory of document 01's vocabulary V with one token more, 255 times x, and writes what each call answers: the
 // document's examples, a stream that holds 254 bytes, and calls that are refused. Then every string of seven letters a to d and spaces,
 // cut into pieces at its spaces: how many give other ids or another refusal than the letters as a whole.
+#![tactic(auto)]
+
 ghost use Rattle.std.specs.Prelude.{◌≤◌, length};
 
 use cases::{write, write_ids, write_number};
@@ -9,7 +11,7 @@ use libc::STDOUT_FILENO;
 use stream_record::{Answer, Stream};
 
 // The ids so far, and the number of a refusal with its offset and byte, or zeros.
-#[derive(Drop)]
+#[derive(Clone, Copy)]
 struct Outcome {
     count: usize,
     number: u64,

@@ -1,4 +1,6 @@
 // The parts of a build that are lent no nodes: the emptied memory, and one token into `single`, the offsets and the blob.
+#![tactic(auto)]
+
 ghost use Rattle.std.specs.Prelude.{◌≡◌, not, List, [], ◌∷◌, ◌++◌, ℕ, ◌+◌, ◌≤◌, ◌<◌, min, ℤ, T, length, get_or, take};
 ghost use Rattle.std.proofs.lemmas.List.Edits.{sets};
 ghost use Rattle.spec.specs.Token.{Token};
@@ -37,7 +39,7 @@ pub fn empty(
 }
 
 // A build under way: the last id, and how many tokens, nodes (node 0 counted) and blob bytes there are.
-#[derive(Drop)]
+#[derive(Clone, Copy)]
 pub struct Build {
     pub previous: u16,
     pub tokens: u32,
@@ -46,7 +48,7 @@ pub struct Build {
 }
 
 // A build with one more token, or document 01's number of the refusal.
-#[derive(Drop)]
+#[derive(Clone, Copy)]
 pub enum Pushed {
     Taken(Build),
     Refused(u8),

@@ -1,12 +1,14 @@
 // UTF-8 by RFC 3629: what stands at a place of a byte string, and the first ill-formed place. Every public function takes any input, and
 // its contract is an equation with a definition of `spec`.
+#![tactic(auto)]
+
 ghost use Rattle.std.specs.Prelude.{◌≡◌, drop};
 ghost use Rattle.spec.specs.Utf8.{◌to◌, within, after, step_of, first_bad};
 ghost use Rattle.utf8.specs.Means.{lead_means, step_means, text_means};
 
 // What the first byte of a character says: so many bytes must follow, the first of them from a low to a high end and the others
 // from 80 to BF; or that no character begins with it.
-#[derive(Drop)]
+#[derive(Clone, Copy)]
 pub enum Lead {
     Nothing,
     Follow(usize, u8, u8),
@@ -39,7 +41,7 @@ pub fn in_range(b: u8, low: u8, high: u8) -> bool
 
 // What stands at a place of a byte string: a character, a maximal ill-formed part, or the beginning of a character that the end
 // cuts off, each with its number of bytes.
-#[derive(Drop)]
+#[derive(Clone, Copy)]
 pub enum Step {
     Char(usize),
     Bad(usize),
@@ -76,7 +78,7 @@ pub fn step_at(s: &[u8], at: usize) -> Step
 }
 
 // Whether a byte string is UTF-8, and the first bad offset if not.
-#[derive(Drop)]
+#[derive(Clone, Copy)]
 pub enum Text {
     WellFormed,
     BadAt(usize),

@@ -3,6 +3,8 @@
 // are anything: nodes, and the marks of taken slots and of used bases, 64 to a word.
 //
 // A load takes any slices. What is refused before any record is refused before anything is written.
+#![tactic(auto)]
+
 pub mod records;
 
 ghost use Rattle.std.specs.Prelude.{◌≡◌, true, false, ◌≤◌, length, take};

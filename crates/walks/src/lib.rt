@@ -1,1 +1,3 @@
 // Lemmas for walks by hand: see specs/. No code stands here.
+#![tactic(auto)]
+

@@ -1,5 +1,7 @@
 // The words of the layout: a node's word once its base stands in its field tail, its place in the table and in the roots, and how many
 // words there are. Nodes come by value: no function here is lent them.
+#![tactic(auto)]
+
 ghost use Rattle.std.specs.Prelude.{◌≡◌, cond, ◌+◌, ◌*◌, ◌<◌, eqb, ltb, length, get_or, set};
 ghost use Rattle.std.specs.Int.Bits.{bit_xor};
 ghost use Rattle.spec.specs.Layout.{pack};
@@ -74,7 +76,7 @@ pub fn root_word_of(n: Node, at: u32) -> u64
 // ---- how many
 
 // What packing a trie answers.
-#[derive(Drop)]
+#[derive(Clone, Copy)]
 pub enum Packed {
     // How many words the layout has.
     Words(u32),
