@@ -8,7 +8,6 @@ use Rattle.std.proofs.lemmas.Bool.{eqb-false, not-true}
 use Rattle.spec.specs.Lists.{each, same, Bytes}
 use Rattle.spec.specs.Check.{Check, pass, refuse}
 use Rattle.spec.specs.Line.{Fields}
-use Rattle.spec.specs.Literal.{literal}
 use Rattle.spec.specs.Token.{Token, seen}
 use Rattle.spec.specs.Trie.{node_count}
 use Rattle.spec.specs.Layout.{tableWords}

@@ -1,7 +1,7 @@
 -- Literals: document 01, "Literals", and document 02, W-205. A literal is read byte by byte; an escape is one step that says which bytes
 -- it stands for and how far it reaches. The set of escapes is a parameter of the reading: `escapes_of` gives that of an edition.
 -- Assumes nothing.
-use Rattle.std.specs.Prelude.{Bool, ◌&&◌, ◌||◌, ℕ, zero, suc, ◌+◌, ◌-◌, eqb, leb, ltb, length, take, drop, get_or}
+use Rattle.std.specs.Prelude.{Bool, ◌&&◌, ◌||◌, ℕ, zero, suc, ◌-◌, eqb, leb, ltb, length, take, drop, get_or}
 use Rattle.std.proofs.Math.Bool.{true, false, cond}
 use Rattle.std.proofs.Math.Option.{Option, none, some, bind, or_else}
 use mathlib.Core.List.{List, [], ◌∷◌, ◌++◌}

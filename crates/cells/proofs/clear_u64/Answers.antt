@@ -1,6 +1,5 @@
 -- `cells::clear_u64` meets its contract. Assumes nothing.
 use mathlib.Core.Path.{◌∙◌}
-use borrow.Author.Rules.{rules}
 use Rattle.cells.proofs.Runs.{filled-whole}
 use Rattle.cells.proofs.clear_u64.Goals as goal
 

@@ -1,8 +1,8 @@
 -- `cells::copy` meets its contract. The loop's invariant: the bytes passed are pasted. Assumes nothing.
 use mathlib.Core.Path.{◌≡◌, refl, ap, ◌∙◌}
-use Prim.Native.Nat.{ℕ, ◌+◌, ◌-◌, zero-le}
+use Prim.Native.Nat.{ℕ, ◌+◌, zero-le}
 use native.Mathlib.Omega.{arith}
-use lib.ListN.{length, drop, get_or, length-set}
+use lib.ListN.{drop, get_or, length-set}
 use lib.Seq.{paste, paste-zero}
 use mathlib.Core.List.{List}
 use lib.ListN.{set}

@@ -1,5 +1,4 @@
 -- `cells::fill_u64` meets its contract. The measure is how many cells are left. Assumes nothing.
-use Prim.Native.Nat.{◌-◌}
 use Rattle.cells.proofs.Runs.{filling-starts, filling-goes, filling-ends}
 use Rattle.cells.proofs.fill_u64.Goals as goal
 
