@@ -13,7 +13,8 @@ use Rattle.std.proofs.Math.Dec.{lit<}
 use Rattle.spec.specs.Lists.{each, fold, has}
 use Rattle.spec.specs.Token.{Token}
 use Rattle.spec.specs.Trie.{extended, cuts, add_new, nodes, node_count, labels, order}
-use Rattle.spec.specs.Layout.{Put, first_from, top, words, first, free, choose, put, place, base_of, pack, slotWord, puts, word_of, table_at}
+use Rattle.spec.specs.Layout.{Put, first_from, top, words, first, free, choose, put, place, base_of, pack, slotWord, puts, word_of}
+use Rattle.spec.specs.Layout.{table_at}
 use Rattle.spec.specs.Layout.{rootAt, tableWords}
 use Rattle.spec.specs.Valid.{Rising, Valid}
 use Rattle.spec.specs.Memory.{blobBytes}

@@ -1,7 +1,9 @@
 -- On loaded memory a run of bytes is undecided just where it is a proper prefix of a token: the theorem `deciding`. Assumes nothing.
-use Rattle.std.specs.Prelude.{◌≡◌, ◌⊎◌, Bool, true, false, not, ◌&&◌, cond, ℕ, zero, suc, ◌+◌, ◌*◌, ◌≤◌, ◌<◌, eqb, ltb, length, take, get_or, drop}
+use Rattle.std.specs.Prelude.{◌≡◌, ◌⊎◌, Bool, true, false, not, ◌&&◌, cond, ℕ, zero, suc, ◌+◌, ◌*◌, ◌≤◌, ◌<◌, eqb, ltb, length, take}
+use Rattle.std.specs.Prelude.{get_or, drop}
 use Rattle.std.proofs.Math.Path.{refl}
-use Rattle.std.proofs.Common.{sym, ap, ap₂, ◌∙◌, inl, inr, arith, lit<, length-take, length-append, length-drop, take_all, get_or-take, get_or-drop, eqb-true, eq-eqb, ltb-true, ne_eqb, lt-ltb}
+use Rattle.std.proofs.Common.{sym, ap, ap₂, ◌∙◌, inl, inr, arith, lit<, length-take, length-append, length-drop, take_all, get_or-take}
+use Rattle.std.proofs.Common.{get_or-drop, eqb-true, eq-eqb, ltb-true, ne_eqb, lt-ltb}
 use mathlib.Core.List.Memᴰ.{head as here}
 use mathlib.Core.List.Memᴰ.{tail as there}
 use mathlib.Core.List.{List, [], ◌∷◌, ◌++◌, append-nil, append_assoc, Memᴰ as Mem}

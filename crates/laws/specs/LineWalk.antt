@@ -1,7 +1,9 @@
 -- A walk over the lines of a text: one turn of it, `next_line`, and that its turns give the lines. The same of the records of a source.
 -- Assumes nothing.
-use Rattle.std.specs.Prelude.{◌≡◌, refl, Bool, true, false, cond, List, [], ◌∷◌, ◌++◌, ℕ, suc, ◌-◌, ◌≤◌, ◌<◌, eqb, ltb, length, take, drop, get_or}
-use Rattle.std.proofs.Common.{sym, ap, ap₂, ◌∙◌, subst, append-nil, append_assoc, le_refl, arith, lt-ltb, ltb-true, length-take, take-take, length-take-le}
+use Rattle.std.specs.Prelude.{◌≡◌, refl, Bool, true, false, cond, List, [], ◌∷◌, ◌++◌, ℕ, suc, ◌-◌, ◌≤◌, ◌<◌, eqb, ltb, length, take}
+use Rattle.std.specs.Prelude.{drop, get_or}
+use Rattle.std.proofs.Common.{sym, ap, ap₂, ◌∙◌, subst, append-nil, append_assoc, le_refl, arith, lt-ltb, ltb-true, length-take}
+use Rattle.std.proofs.Common.{take-take, length-take-le}
 use Rattle.std.proofs.Math.Option.{Option, none, some, none-ne-some, some-injective}
 use Rattle.std.proofs.Math.Dec.{leb-suc-suc}
 use Rattle.std.proofs.Math.Seq.{append_snoc, drop-length, take-length}

@@ -1,11 +1,13 @@
 -- What holds of numbers in digits and of literals. Assumes nothing.
-use Rattle.std.specs.Prelude.{◌≡◌, refl, Bool, true, false, ◌||◌, cond, List, [], ◌∷◌, ℕ, zero, suc, ◌+◌, ◌*◌, ◌-◌, ◌^◌, ◌≤◌, ◌<◌, leb, ltb}
+use Rattle.std.specs.Prelude.{◌≡◌, refl, Bool, true, false, ◌||◌, cond, List, [], ◌∷◌, ℕ, zero, suc, ◌+◌, ◌*◌, ◌-◌, ◌^◌, ◌≤◌, ◌<◌, leb}
+use Rattle.std.specs.Prelude.{ltb}
 use Rattle.std.proofs.Common.{sym, subst, add-zero, zero-add, le_trans, pow-suc, add-one, arith, lit≤, lit<, leb-true, le-ltb}
 use Rattle.std.proofs.Math.Bool.{or-false}
 use Rattle.std.proofs.Math.Option.{Option, none, some, bind, none-ne-some, some-injective}
 use Rattle.std.proofs.Math.Nat.{pow-le-pow_right}
 use Rattle.spec.specs.Utf8.{◌to◌, within, utf8_of}
-use Rattle.spec.specs.Digits.{digits_after, at_most, digits, hex_digit, hex_after, hex_run, octal_digit, Octal, one_more, octal_after, octal_run}
+use Rattle.spec.specs.Digits.{digits_after, at_most, digits, hex_digit, hex_after, hex_run, octal_digit, Octal, one_more, octal_after}
+use Rattle.spec.specs.Digits.{octal_run}
 use Rattle.spec.specs.Literal.{escaped, point_escape}
 use Rattle.laws.specs.Tests.{and_l, and_r}
 

@@ -1,6 +1,7 @@
 -- On loaded memory the walk finds the longest token, for every byte string: the theorem `matching`. Assumes nothing.
 use Rattle.std.specs.Prelude.{◌≡◌, refl, ◌⊎◌, ℕ, zero, suc, ◌+◌, ◌-◌, ◌≤◌, ◌<◌, max, leb, pos, length, take, get_or, drop}
-use Rattle.std.proofs.Common.{sym, ap₂, ◌∙◌, subst, inl, inr, arith, lit<, length-take, length-append, length-drop, take-append-drop, take_at, eq-eqb, leb-true, leb-false, ne_eqb}
+use Rattle.std.proofs.Common.{sym, ap₂, ◌∙◌, subst, inl, inr, arith, lit<, length-take, length-append, length-drop, take-append-drop}
+use Rattle.std.proofs.Common.{take_at, eq-eqb, leb-true, leb-false, ne_eqb}
 use Rattle.std.proofs.Math.Path.{ap}
 use mathlib.Core.List.{List, [], ◌∷◌, ◌++◌, append-nil, append_assoc, head-eq_of_cons-eq, Memᴰ as Mem}
 use Rattle.std.proofs.Math.Seq.{take-append-add}

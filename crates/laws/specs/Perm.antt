@@ -1,6 +1,8 @@
 -- The permutation of a 64-bit word by d: bit i of the result is bit i xor d of the word. Assumes nothing.
-use Rattle.std.specs.Prelude.{◌≡◌, refl, ◌⊎◌, Bool, true, false, ◌&&◌, ◌||◌, cond, ℕ, zero, suc, ◌+◌, ◌*◌, ◌/◌, ◌%◌, ◌^◌, ◌-◌, ◌≤◌, ◌<◌, min, max, eqb, ltb, leb}
-use Rattle.std.proofs.Common.{sym, ap, ◌∙◌, inl, inr, mod-lt, zero-lt-suc, mul_assoc, arith, lit<, pow-add, shr-shr, eqb-true, ltb-true, leb-true, ltb-false}
+use Rattle.std.specs.Prelude.{◌≡◌, refl, ◌⊎◌, Bool, true, false, ◌&&◌, ◌||◌, cond, ℕ, zero, suc, ◌+◌, ◌*◌, ◌/◌, ◌%◌, ◌^◌, ◌-◌, ◌≤◌, ◌<◌}
+use Rattle.std.specs.Prelude.{min, max, eqb, ltb, leb}
+use Rattle.std.proofs.Common.{sym, ap, ◌∙◌, inl, inr, mod-lt, zero-lt-suc, mul_assoc, arith, lit<, pow-add, shr-shr, eqb-true, ltb-true}
+use Rattle.std.proofs.Common.{leb-true, ltb-false}
 use Rattle.std.proofs.Math.Nat.{zero-min, min-zero, zero-max}
 use Rattle.std.specs.Int.Bits.{bit_xor, bit_and, bit_or, shifted_even}
 use Rattle.std.proofs.lemmas.Nat.{xor_lt, and_shr, and_mod, or_shr, or_mod, shl-shr}

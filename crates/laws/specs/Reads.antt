@@ -1,6 +1,7 @@
 -- What each cell of loaded memory holds; and that `memory_of` gives loaded memory, of the lengths that it had. Assumes nothing.
 use Rattle.std.specs.Prelude.{◌≡◌, false, List, [], ◌∷◌, ◌++◌, ℕ, ◌+◌, ◌-◌, ◌≤◌, ◌<◌, ltb, pos, length, take, get_or, replicate, drop}
-use Rattle.std.proofs.Common.{sym, ◌∙◌, inl, inr, arith, length-append, length-drop, take_at, get_or-take, get_or-append-add, ltb-true, ltb-false}
+use Rattle.std.proofs.Common.{sym, ◌∙◌, inl, inr, arith, length-append, length-drop, take_at, get_or-take, get_or-append-add, ltb-true}
+use Rattle.std.proofs.Common.{ltb-false}
 use Rattle.std.proofs.Math.Path.{ap}
 use Rattle.std.proofs.Math.ListN.{get_or-eq_default, get_or-append}
 use Rattle.std.proofs.lemmas.List.{length-replicate, get_or-replicate}
@@ -8,7 +9,8 @@ use Rattle.spec.specs.Lists.{up_from, over}
 use Rattle.spec.specs.Token.{Token, id_of}
 use Rattle.spec.specs.Layout.{table_at, rootAt, tableWords}
 use Rattle.spec.specs.Valid.{Valid}
-use Rattle.spec.specs.Memory.{Memory, too_short, id_or_none, length_before, singleList, offsetList, blobBytes, rootList, tableList, padded}
+use Rattle.spec.specs.Memory.{Memory, too_short, id_or_none, length_before, singleList, offsetList, blobBytes, rootList, tableList}
+use Rattle.spec.specs.Memory.{padded}
 use Rattle.spec.specs.Memory.{memory_of, Loaded}
 use Rattle.laws.specs.Tests.{Tested, either, neither}
 use Rattle.laws.specs.Listed.{up_length, up_at, table-read}

@@ -2,7 +2,8 @@
 -- where no node goes on. Assumes nothing.
 use Rattle.std.specs.Prelude.{◌≡◌, ◌⊎◌, Bool, false, not, ◌&&◌, leb, length, take, get_or}
 use Rattle.std.proofs.Math.Path.{refl, ap₂}
-use Rattle.std.proofs.Common.{sym, ap, ◌∙◌, subst, inl, add-one, arith, lit<, length-append, eqb-true, eq-eqb, leb-true, leb-false, ne_eqb}
+use Rattle.std.proofs.Common.{sym, ap, ◌∙◌, subst, inl, add-one, arith, lit<, length-append, eqb-true, eq-eqb, leb-true, leb-false}
+use Rattle.std.proofs.Common.{ne_eqb}
 use Rattle.std.proofs.Math.Logic.{inr}
 use Rattle.std.proofs.Math.Bool.{true, cond}
 use mathlib.Core.List.{List, [], ◌∷◌, ◌++◌, append_assoc, head-eq_of_cons-eq, nil≢cons, Memᴰ as Mem}

@@ -14,7 +14,8 @@ use Rattle.spec.specs.Layout.{tableWords}
 use Rattle.spec.specs.Valid.{Rising, Distinct, Valid}
 use Rattle.spec.specs.Memory.{blobBytes}
 use Rattle.spec.specs.Load.{Room, id_rule, length_rule, read_token, read_fields, read_line, Form, vocabulary, records_in, reading, admit}
-use Rattle.spec.specs.Load.{last_id, take_one, Place, nowhere, line, byte, Outcome, accepted, refused, missing, demanded, finish, take_all}
+use Rattle.spec.specs.Load.{last_id, take_one, Place, nowhere, line, byte, Outcome, accepted, refused, missing, demanded, finish}
+use Rattle.spec.specs.Load.{take_all}
 use Rattle.spec.specs.Load.{load}
 use Rattle.spec.specs.Theorems.{LoadsValid, FullIsFull, PartialDrops20}
 use Rattle.laws.specs.Tests.{either, neither, same_refl, clash}

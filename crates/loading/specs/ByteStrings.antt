@@ -9,7 +9,8 @@ use Rattle.spec.specs.Lists.{all, Bytes}
 use Rattle.spec.specs.Check.{pass, given, need}
 use Rattle.spec.specs.Utf8.{◌to◌, within, utf8_of, blank}
 use Rattle.spec.specs.Digits.{hex_run, octal_run}
-use Rattle.spec.specs.Line.{lf, cr, less_cr, with_lf, last_line, lines_after, lines, Fields, first_space, last_space, parted, placed, fields}
+use Rattle.spec.specs.Line.{lf, cr, less_cr, with_lf, last_line, lines_after, lines, Fields, first_space, last_space, parted, placed}
+use Rattle.spec.specs.Line.{fields}
 use Rattle.spec.specs.Literal.{Piece, Escapes, letters, look_up, escaped, byte_escape, point_escape, escape, more_letters, octal_escape}
 use Rattle.spec.specs.Literal.{escape2, escapes_of, plain, bad, piece, closed, piece_at, inside, quoted, readWith, read, literal}
 use Rattle.spec.specs.Load.{Form, vocabulary, records_in}

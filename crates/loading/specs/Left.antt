@@ -12,7 +12,8 @@ use Rattle.spec.specs.Layout.{tableWords}
 use Rattle.spec.specs.Memory.{Memory, too_short, memory_of, Loaded}
 use Rattle.spec.specs.Load.{Room, id_rule, length_rule, read_token, read_fields, read_line, Form, vocabulary, records_in, reading, admit}
 use Rattle.spec.specs.Load.{last_id, take_one, Place, nowhere, line, byte, offset, Outcome, accepted, refused, missing, demanded, finish}
-use Rattle.spec.specs.Load.{take_all, load, Start, halts, goes, halt_if, in_utf8, start_of, counts_of, LoadResult, settled, begun, load_on}
+use Rattle.spec.specs.Load.{take_all, load, Start, halts, goes, halt_if, in_utf8, start_of, counts_of, LoadResult, settled, begun}
+use Rattle.spec.specs.Load.{load_on}
 use Rattle.spec.specs.Theorems.{LoadsLoaded, Edition, TextStarts, TextGoes, NamesFirstBad}
 use Rattle.laws.specs.FirstBad.{well_formed_none, not-well_formed, first-bad_is_first}
 use Rattle.laws.specs.Tests.{clash}

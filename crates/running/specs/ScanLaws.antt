@@ -1,7 +1,8 @@
 -- The scan: the equations by which one would write it, that its ids are ids of tokens, and that they decode to the bytes scanned, all
 -- of the input where it is done and those before the offset where it fails. Assumes nothing.
 use Rattle.std.specs.Prelude.{◌≡◌, refl, ◌≢◌, true, List, [], ◌∷◌, ◌++◌, ℕ, zero, suc, pred, ◌+◌, ◌≤◌, ◌<◌, length, take, drop, get_or}
-use Rattle.std.proofs.Common.{sym, ◌∙◌, ap, append_assoc, add-zero, arith, length-append, take-append-drop, length-take-le, take_at, drop_at}
+use Rattle.std.proofs.Common.{sym, ◌∙◌, ap, append_assoc, add-zero, arith, length-append, take-append-drop, length-take-le, take_at}
+use Rattle.std.proofs.Common.{drop_at}
 use Rattle.std.proofs.Math.Option.{Option, none, some}
 use Rattle.std.proofs.lemmas.List.{get_or_at}
 use Rattle.spec.specs.Lists.{all}

@@ -2,7 +2,8 @@
 -- lines", "line" and "after the lines", and "Lines"; document 02, W-205. A source is a list of bytes of some form: `start_of` has what is
 -- refused before any record, `records_in` its records, `reading` what a record states. All else is the same for every form. Each test
 -- stands in the table's order. Assumes nothing.
-use Rattle.std.specs.Prelude.{Bool, true, false, not, ◌||◌, cond, List, [], ◌∷◌, ◌++◌, ℕ, zero, suc, ◌-◌, ◌*◌, ◌/◌, ◌^◌, min, eqb, leb, ltb, length}
+use Rattle.std.specs.Prelude.{Bool, true, false, not, ◌||◌, cond, List, [], ◌∷◌, ◌++◌, ℕ, zero, suc, ◌-◌, ◌*◌, ◌/◌, ◌^◌, min, eqb, leb}
+use Rattle.std.specs.Prelude.{ltb, length}
 use Rattle.std.proofs.Math.Option.{Option, none, some}
 use Rattle.spec.specs.Check.{Check, pass, refuse, and_then, given, need}
 use Rattle.spec.specs.Utf8.{first_bad}
