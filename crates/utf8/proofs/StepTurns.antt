@@ -2,8 +2,7 @@
 use mathlib.Core.Path.{◌≡◌, refl, ap, ◌∙◌, sym}
 use mathlib.Core.Bool.{true, false}
 use mathlib.Core.Option.{Option, none, some}
-use mathlib.Core.List.{List, [], ◌∷◌}
-use mathlib.Core.Logic.{⊎_elim}
+use mathlib.Core.List.{List, []}
 use Prim.Native.Nat.{ℕ, zero, suc, ◌+◌, ◌-◌, ◌≤◌, ◌<◌}
 use native.Mathlib.Numerals.{add-one}
 use native.Mathlib.Omega.{arith}
@@ -12,17 +11,14 @@ use lib.Seq.{drop-cons, drop-drop}
 use Rattle.spec.specs.Utf8.{Range, ◌to◌, within, tail, grammar, after, Step, char, bad, cut, is_char, follow, followed, step_of}
 use Rattle.laws.specs.Utf8Laws.{step_nil, step_cons, char_within, first-bad_nil, first-bad-char, first-bad-other}
 use Rattle.spec.specs.Utf8.{first_bad_from}
-use denote.Enum.Declared.{tag_of, declared}
-use types.Run.{OneOf}
 use Rattle.utf8.specs.declared.Step.{Step as Found}
 use Rattle.utf8.specs.declared.Step.TheVariants.{Char, Bad, Cut}
-use Rattle.utf8.specs.contracts.Step.{enum}
 use Rattle.utf8.specs.Means.{ranges, step_means}
 use Rattle.utf8.proofs.Ranges.{after-at}
 
 -- the answers of `step_at` that are no character
-pub no_char : (r : Found) → OneOf (1 ∷ 2 ∷ []) (tag_of (declared enum) r) → is_char (step_means r) ≡ false
-no_char (Char n) h = ⊎_elim (λ (e : 0 ≡ 1). absurd (omega arith)) (λ (e : 0 ≡ 2). absurd (omega arith)) h
+pub no_char : (r : Found) → ((n : ℕ) → r ≡ Char n → ⊥) → is_char (step_means r) ≡ false
+no_char (Char n) h = absurd (h n refl)
 no_char (Bad n) h = refl
 no_char (Cut n) h = refl
 
