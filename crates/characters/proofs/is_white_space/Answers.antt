@@ -9,9 +9,10 @@ use Rattle.spec.specs.Lists.{all}
 use Rattle.spec.specs.Utf8.{◌to◌, white_ranges, white_space}
 use Rattle.laws.specs.Utf8Laws.{Out}
 use Rattle.characters.proofs.WhiteRanges.{white_in, white_out, key_passes, NoneOf, none_of}
-use Rattle.characters.proofs.is_white_space.Statement.{statement}
-use Rattle.characters.proofs.is_white_space.Tie as tie
+use Rattle.characters.proofs.is_white_space.Goals as goal
 
+-- `characters::is_white_space` meets its contract. The code points that stand alone are the keys of the `match`, and the rest are its
+-- tests. Assumes nothing.
 abbrev keys : List ℕ
 keys = 0x20 ∷ 0x85 ∷ 0xA0 ∷ 0x1680 ∷ 0x202F ∷ 0x205F ∷ 0x3000 ∷ []
 
@@ -40,41 +41,34 @@ none n ks a b c =
       ),
     ))
 
-returns : tie.Need-returns
+pub returns-in_default : goal.returns-in_default
 unfolding white_ranges
-returns c = sym (white_out _ (omega arith))
+returns-in_default c = sym (white_out _ (omega arith))
 
-returns-2 : tie.Need-returns-2
+pub returns-in_default-2 : goal.returns-in_default-2
 unfolding white_ranges
-returns-2 c = none _ (none_of keys _ c.before.before.before.match.rest.1) (omega arith) (omega arith) (omega arith)
+returns-in_default-2 c = none _ (none_of keys _ c.in_default.in_default-own.rest.1) (omega arith) (omega arith) (omega arith)
 
-returns-3 : tie.Need-returns-3
+pub returns-in_default-3 : goal.returns-in_default-3
 unfolding white_ranges
-returns-3 c = sym (white_out _ (omega arith))
+returns-in_default-3 c = sym (white_out _ (omega arith))
 
-returns-4 : tie.Need-returns-4
+pub returns-in_default-4 : goal.returns-in_default-4
 unfolding white_ranges
-returns-4 c =
-    let d = c.before.before.before.before.before.before in
-    none _ (none_of keys _ d.match.rest.1) (omega arith) (omega arith) (omega arith)
+returns-in_default-4 c = none _ (none_of keys _ c.in_default.in_default-own.rest.1) (omega arith) (omega arith) (omega arith)
 
-returns-5 : tie.Need-returns-5
+pub returns-in-9-to-13 : goal.returns-in-9-to-13
 unfolding white_space all
-returns-5 c = sym (key_passes white_space keys _ refl c.match.keys1)
+returns-in-9-to-13 c = sym (key_passes white_space keys _ refl c.in-9-to-13.in-9-to-13-own.keys1)
 
-returns-6 : tie.Need-returns-6
+pub returns-in-9-to-13-2 : goal.returns-in-9-to-13-2
 unfolding white_ranges
-returns-6 c = sym (white_in 0 _ (omega arith))
+returns-in-9-to-13-2 c = sym (white_in 0 _ (omega arith))
 
-returns-7 : tie.Need-returns-7
+pub returns-in-9-to-13-3 : goal.returns-in-9-to-13-3
 unfolding white_ranges
-returns-7 c = sym (white_in 5 _ (omega arith))
+returns-in-9-to-13-3 c = sym (white_in 5 _ (omega arith))
 
-returns-8 : tie.Need-returns-8
+pub returns-in-9-to-13-4 : goal.returns-in-9-to-13-4
 unfolding white_ranges
-returns-8 c = sym (white_in 6 _ (omega arith))
-
-pub is-white-space-spec : {M : Type 1} → statement M
-is-white-space-spec =
-    tie.close
-    (tie.spec returns returns-2 returns-3 returns-4 returns-5 returns-6 returns-7 returns-8)
+returns-in-9-to-13-4 c = sym (white_in 6 _ (omega arith))
