@@ -2,7 +2,6 @@
 use Rattle.std.proofs.Math.Option.{Option, none, some}
 use Rattle.std.specs.Prelude.{[], ◌∷◌}
 use Rattle.escapes.specs.declared.Piece.{Piece}
-use Rattle.escapes.specs.declared.Piece.TheVariants as Piece
 use Rattle.spec.specs.Literal.{Piece as PieceAt}
 use Rattle.spec.specs.Utf8.{utf8_of}
 
