@@ -5,7 +5,6 @@ use Rattle.spec.specs.Literal.{point_escape}
 use Rattle.numbers.proofs.Numbers.{part-from}
 use Rattle.escapes.proofs.Escapes.{chosen2, escape2-empty, escape2-letter, escape2-octal, escape2-other}
 use Rattle.escapes.proofs.escape_2.Goals as goal
-use Rattle.escapes.proofs.escape_2.Goals.{in_default-via-then-letter-lt48, in_default-via-else-letter-lt48+else-letter-lt56}
 
 pub returns-then-rest-eq0 : goal.returns-then-rest-eq0
 returns-then-rest-eq0 c = sym (escape2-empty _ _ c.if-rest-eq0.true)
@@ -41,11 +40,5 @@ returns-in-48-to-55 c = c.octal_escape.ensures ∙ sym (escape2-octal _ _ _ (ome
 pub returns-in_default : goal.returns-in_default
 returns-in_default c =
     c.escape.ensures
-    ∙ elim c.in_default.branch [
-      | in_default-via-then-letter-lt48 w ↦
-          sym (escape2-other _ _ _ (omega arith) refl (λ l h. omega arith)
-          (omega arith) (omega arith) (omega arith) (omega arith) (omega arith))
-      | in_default-via-else-letter-lt48+else-letter-lt56 w ↦
-          sym (escape2-other _ _ _ (omega arith) refl (λ l h. omega arith)
-          (omega arith) (omega arith) (omega arith) (omega arith) (omega arith))
-    ]
+    ∙ sym (escape2-other _ _ _ (omega arith) refl (λ l h. grind arith)
+    (grind arith) (grind arith) (grind arith) (grind arith) (grind arith))
