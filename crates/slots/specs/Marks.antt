@@ -1,5 +1,6 @@
 -- Words of marks: what the search tests, 64 slots at once. Assumes nothing.
-use Rattle.std.specs.Prelude.{◌≡◌, Bool, not, ◌||◌, cond, List, [], ◌∷◌, ℕ, ◌+◌, ◌-◌, ◌*◌, ◌%◌, ◌^◌, ◌≤◌, ◌<◌, length, get_or, eqb, leb, ltb}
+use Rattle.std.specs.Prelude.{◌≡◌, Bool, not, ◌||◌, cond, List, [], ◌∷◌, ℕ, ◌+◌, ◌-◌, ◌*◌, ◌%◌, ◌^◌, ◌≤◌, ◌<◌}
+use Rattle.std.specs.Prelude.{length, get_or, eqb, leb, ltb}
 use Rattle.std.specs.Int.Bits.{bit_xor}
 use Rattle.spec.specs.Lists.{any}
 use Rattle.spec.specs.Layout.{first_from}
