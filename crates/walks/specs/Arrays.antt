@@ -14,7 +14,7 @@ use Prim.Native.Nat.{ℕ, zero, suc, ◌^◌}
 use mathlib.Core.List.{List, [], ◌∷◌, ◌++◌}
 use Rattle.std.proofs.lemmas.List.{length-replicate}
 use seplogic.Ra.Ura.{Ura}
-use seplogic.Ra.TreeShare.{full_share}
+use base.Fraction.{full_share}
 use mir.Syntax.{Lifetime, ty_array, Ty, erased, ty_ref, Mutability, place, copy, int, w64, addr_of, aggregate, Body, seq, assign}
 use mir.Val.{Val, vptr}
 use base.Logic.{ent, sep, via, snd∗}

@@ -8,7 +8,7 @@
 use Rattle.std.specs.Prelude.{◌≡◌, ℕ, zero, ◌+◌, ◌-◌, cond, List, [], ◌∷◌, T, ltb, get_or}
 use Rattle.std.proofs.Common.{sym, ap, subst}
 use seplogic.Ra.Ura.{Ura}
-use seplogic.Ra.TreeShare.{full_share}
+use base.Fraction.{full_share}
 use mir.Syntax.{Name, Ty, Place, place, Opd as Operand, copy, Body, seq, call}
 use mir.Val.{Val, WT, has_ty}
 use base.Logic.{SProp, ent, sep, wand, emp, id⊢, via, comm∗, assoc∗, mono_l, wand_i, apply∗}

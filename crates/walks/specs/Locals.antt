@@ -9,7 +9,7 @@
 use Rattle.std.specs.Prelude.{◌≡◌, refl, ℕ, zero, List, [], ◌∷◌, ◌++◌, get_or, T as Holds}
 use Rattle.std.proofs.Common.{sym, ap, subst}
 use seplogic.Ra.Ura.{Ura}
-use seplogic.Ra.TreeShare.{full_share}
+use base.Fraction.{full_share}
 use mir.Syntax.{Ty, Step as PStep, place, field, deref, ty_ref, Lifetime, Mutability, copy, aggregate, addr_of, Body, seq, assign, Local}
 use mir.Syntax.{Fn}
 use mir.Val.{Val, vptr, WT, has_ty}

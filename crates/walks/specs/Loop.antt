@@ -9,7 +9,7 @@ use Rattle.std.specs.Prelude.{◌≡◌, ℕ, zero, ◌<◌, List, [], ◌∷◌
 use Rattle.std.proofs.Common.{ap}
 use Rattle.std.proofs.Math.Option.{Option, none, some}
 use seplogic.Ra.Ura.{Ura}
-use seplogic.Ra.TreeShare.{full_share}
+use base.Fraction.{full_share}
 use mir.Syntax.{Body, seq, block, loop, Fn}
 use mir.Val.{Val}
 use base.Logic.{SProp, ent, sep, id⊢, via, mono_l}

@@ -7,7 +7,7 @@
 use Rattle.std.specs.Prelude.{◌≡◌, ℕ, ◌<◌, List, [], ◌∷◌, ◌++◌, length, get_or, set}
 use Rattle.std.proofs.Common.{sym, ◌∙◌, ap, subst, length-set}
 use seplogic.Ra.Ura.{Ura}
-use seplogic.Ra.TreeShare.{full_share}
+use base.Fraction.{full_share}
 use mir.Val.{Val}
 use base.Fml.{Lft, Share, Fml, feq, fsep, fobs, fauth, fres, fobor, fshr_bor}
 use types.Logic.{Logic}

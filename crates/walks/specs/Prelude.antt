@@ -14,7 +14,7 @@ pub use base.Logic.{SProp, id⊢}
 pub use prog.Memory.{Memory}
 pub use prog.Routine.{Routine}
 pub use base.Fml.{fat}
-pub use seplogic.Ra.TreeShare.{full_share}
+pub use base.Fraction.{full_share}
 pub use prog.Wp.{Heap, Env, Out, Wp, WpFn, Tables, at_return, after_seq, after_block}
 unfoldable pub use prog.Wp.{after_turn}
 pub use ghost.Atoms.{Atoms}

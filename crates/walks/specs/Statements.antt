@@ -8,7 +8,7 @@ use Rattle.std.specs.Prelude.{◌≡◌, ℕ, zero, ◌+◌, List, [], ◌∷◌
 use Rattle.std.proofs.Common.{sym, subst}
 use Rattle.std.proofs.Math.Option.{some}
 use seplogic.Ra.Ura.{Ura}
-use seplogic.Ra.TreeShare.{full_share}
+use base.Fraction.{full_share}
 use mir.Syntax.{Sym, Width, int_big, Ty, Tys, ty_struct, field, place, copy, Rv as RValue, Body, seq, assign}
 use mir.Val.{Val, Vals, vint, Fits, vstruct, WT, has_ty}
 use mir.Fields.{get_v, set_v}
