@@ -17,8 +17,8 @@ use contract.Monad.{Fun, fact, fact_i, fact_use}
 use types.Kit.{‵, raw, given, ◌⊛◌, some as exists, ⋆, push, ◌$◌, ◌∵◌, !, qed, by, move, drop, split, use1, use2, fsplit, fjoin}
 use types.Kit.{pick, learn, show, check, done}
 use denote.Laws.{Is, Typed, shows, Typed-app}
-use denote.Ref.{MutRef, shr_vals}
-use denote.Slice.{MutSlice, ShrSlice, Room, shr_slice_vals}
+use denote.Ref.{MutRef, mut_vals}
+use denote.Slice.{MutSlice, ShrSlice, Room, shr_slice_vals, mut_slice_vals}
 use denote.Steps.{peeks}
 use denote.Triple.Walked.{needs}
 use Rattle.walks.specs.Loan.{Par, value, copied, viewed, lent, borrowed, Lfs, Shs, Dens, Vss, row, Mut, Shr, Ref, owns_p, toksP}
@@ -39,8 +39,8 @@ module _ {M : Type 1} {𝓤 : Ura M} (𝓛 : Logic 𝓤) where
   spelled (value R ∷ ps) pl a = (pl.0.vals a.0, spelled ps pl.1 a.1)
   spelled (copied R ∷ ps) pl a = (shr_slice_vals a.0, spelled ps pl a.1)
   spelled (viewed R ∷ ps) pl a = absurd pl.0
-  spelled (lent R ∷ ps) pl a = (shr_slice_vals a.0, spelled ps pl a.1)
-  spelled (borrowed R ∷ ps) pl a = (shr_vals a.0, spelled ps pl a.1)
+  spelled (lent R ∷ ps) pl a = (mut_slice_vals a.0, spelled ps pl a.1)
+  spelled (borrowed R ∷ ps) pl a = (mut_vals a.0, spelled ps pl a.1)
 
   -- what is known of the arguments: of plain data its relation, of a slice that it has room
   abbrev pub Known : (ps : List Par) → Plains ps → Dens ps → Type 0
