@@ -114,7 +114,7 @@ module _ {M : Type 1} {𝓤 : Ura M} {𝓛 : Logic 𝓤} {K : Type 0} {Γ : List
       fsplit t $ drop t $ s)
 
 each_repeated : (R : RattleType) (x : R.Denot) (u : Val) → Is R x (u ∷ []) → (n : ℕ)
-    → shadow (each R.Denot R.own (replicate n x) (replicate n u))
+    → shadow (each R.Denot R.own_val (replicate n x) (replicate n u))
 each_repeated R x u is zero = tt
 each_repeated R x u is (suc n) = (is, each_repeated R x u is n)
 

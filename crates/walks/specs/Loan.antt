@@ -8,7 +8,7 @@
 --     end-all          (the tokens ∗ the last values) ∗ what was kept   to   ⇛ holds at the last values, which are as long
 -- Assumes `Logic`.
 use Rattle.std.specs.Prelude.{◌≡◌, refl, ℕ, List, [], ◌∷◌, ◌++◌, length}
-use Rattle.std.proofs.Common.{sym, ap}
+use Rattle.std.proofs.Common.{sym}
 use seplogic.Ra.Ura.{Ura}
 use base.Fraction.{full_share}
 use mir.Syntax.{erased}
@@ -86,10 +86,6 @@ seen (p ∷ ps) = as_seen p ∷ seen ps
 abbrev pub seen_vss : (ps : List Par) → Vss ps → Vss (seen ps)
 seen_vss [] vss = tt
 seen_vss (p ∷ ps) vss = (vss.0, seen_vss ps vss.1)
-
-pub seen_row : (ps : List Par) (vss : Vss ps) → row (seen ps) (seen_vss ps vss) ≡ row ps vss
-seen_row [] vss = refl
-seen_row (p ∷ ps) vss = ap (λ (us : List Val). vss.0 ++ us) (seen_row ps vss.1)
 
 -- what a call makes: a lifetime for each reference that is lent, and a name for each that is lent as a `&mut`
 abbrev pub News : List Par → Type 0

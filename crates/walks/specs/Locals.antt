@@ -14,8 +14,8 @@ use mir.Syntax.{Ty, Step as PStep, place, field, deref, ty_ref, Lifetime, Mutabi
 use mir.Syntax.{Fn}
 use mir.Val.{Val, vptr, WT, has_ty}
 use base.Logic.{SProp, ent, sep, guard, wand, emp, ex∗, id⊢, via, snd∗, emp∗, assoc∗, mono_l, mono_r, all_i, wand_i, guard_i}
-use base.Fml.{Share, Fml, ftrue, ffalse, feq, flt, fsep, fand, for, fwand, fex, fall, fupd, fat, froom, fdies, flft, fdead, fobs, fauth}
-use base.Fml.{fres, fbor, fobor, flent, fshr_bor}
+use base.Fml.{Share, Fml, ftrue, ffalse, feq, flt, fsep, fand, for, fwand, fex, fall, fupd, fhide, fat, froom, fleft, fdies, flft, fdead}
+use base.Fml.{fobs, fauth, fres, fown, fbor, fobor, flent, fshr_bor, finv, fnamed, ftok, fkid, fme, fsent}
 use prog.Wp.{Heap, Env, Spot, Calls, Loops, Wp, WpFn, ty_of, alloc, pass, params, release, at_return, no_local}
 use types.Logic.{Logic, sem}
 use types.Kit.{Item, ‵, raw, given, ◌⊛◌, some as exists, later, mean, ⋆, nth, del, put, pull, unpull, fill, push, pop, ++⊢, ⊢++}
@@ -145,18 +145,27 @@ as_room (fwand P Q) = (fwand P Q, full_share)
 as_room (fex X F) = (fex X F, full_share)
 as_room (fall X F) = (fall X F, full_share)
 as_room (fupd P) = (fupd P, full_share)
+as_room (fhide P) = (fhide P, full_share)
 as_room (fat q τ b o v) = (froom τ b o, q)
 as_room (froom τ b o) = (froom τ b o, full_share)
+as_room (fleft q τ τs b o) = (fleft q τ τs b o, full_share)
 as_room (fdies τ b) = (fdies τ b, full_share)
 as_room (flft κ q) = (flft κ q, full_share)
 as_room (fdead κ) = (fdead κ, full_share)
 as_room (fobs γ u) = (fobs γ u, full_share)
 as_room (fauth γ u) = (fauth γ u, full_share)
 as_room (fres γ u) = (fres γ u, full_share)
+as_room (fown A γ x) = (fown A γ x, full_share)
 as_room (fbor κ P) = (fbor κ P, full_share)
 as_room (fobor κ q P) = (fobor κ q P, full_share)
 as_room (flent κ P) = (flent κ P, full_share)
 as_room (fshr_bor κ F) = (fshr_bor κ F, full_share)
+as_room (finv P) = (finv P, full_share)
+as_room (fnamed n P) = (fnamed n P, full_share)
+as_room (ftok m) = (ftok m, full_share)
+as_room (fkid h a) = (fkid h a, full_share)
+as_room (fme h) = (fme h, full_share)
+as_room (fsent t) = (fsent t, full_share)
 
 abbrev pub full : List Share → List Share
 full [] = []
@@ -185,18 +194,27 @@ module _ {M : Type 1} {𝓤 : Ura M} (𝓛 : Logic 𝓤) where
   roomy (fex X F) e = id⊢ 𝓤 _
   roomy (fall X F) e = id⊢ 𝓤 _
   roomy (fupd P) e = id⊢ 𝓤 _
+  roomy (fhide P) e = id⊢ 𝓤 _
   roomy (fat q τ b o v) e = subst (λ (s : Share). ent 𝓤 (H.at s τ b o v) (H.room τ b o)) (sym e) (𝓛.laws.at_room τ b o v)
   roomy (froom τ b o) e = id⊢ 𝓤 _
+  roomy (fleft q τ τs b o) e = id⊢ 𝓤 _
   roomy (fdies τ b) e = id⊢ 𝓤 _
   roomy (flft κ q) e = id⊢ 𝓤 _
   roomy (fdead κ) e = id⊢ 𝓤 _
   roomy (fobs γ u) e = id⊢ 𝓤 _
   roomy (fauth γ u) e = id⊢ 𝓤 _
   roomy (fres γ u) e = id⊢ 𝓤 _
+  roomy (fown A γ x) e = id⊢ 𝓤 _
   roomy (fbor κ P) e = id⊢ 𝓤 _
   roomy (fobor κ q P) e = id⊢ 𝓤 _
   roomy (flent κ P) e = id⊢ 𝓤 _
   roomy (fshr_bor κ F) e = id⊢ 𝓤 _
+  roomy (finv P) e = id⊢ 𝓤 _
+  roomy (fnamed n P) e = id⊢ 𝓤 _
+  roomy (ftok m) e = id⊢ 𝓤 _
+  roomy (fkid h a) e = id⊢ 𝓤 _
+  roomy (fme h) e = id⊢ 𝓤 _
+  roomy (fsent t) e = id⊢ 𝓤 _
 
   abbrev pub item_room : Item 𝓤 → Item 𝓤 × Share
   item_room (‵ F) = (‵ (as_room F).0, (as_room F).1)

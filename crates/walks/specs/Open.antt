@@ -2,31 +2,33 @@
 -- left of the reference stands at the END of the context until it is closed, so that no other entry moves.
 --     opens_at, closes_at          a `&mut T`
 --     opens-elem, closes-elem      the element at i of a `&mut [T]`
---     looks-elem, shuts-elem       the element at i of a `&[T]`, to be read
+--     looks-elem, shuts-elem       the element at i of a `&[T]`, to be read. T can be copied (`Copied`)
 -- Assumes `Logic`.
 use Rattle.std.specs.Prelude.{◌≡◌, ℕ, ◌<◌, List, [], ◌∷◌, ◌++◌, length, get_or, set}
 use Rattle.std.proofs.Common.{sym, ◌∙◌, ap, subst, length-set}
 use seplogic.Ra.Ura.{Ura}
 use base.Fraction.{full_share}
 use mir.Val.{Val}
-use base.Fml.{Lft, Share, Fml, feq, fsep, fobs, fauth, fres, fobor, fshr_bor}
+use base.Fml.{Lft, Share, Fml, feq, fsep, fobs, fauth, fobor, fhide}
 use types.Logic.{Logic}
-use types.Kit.{Item, ‵, nth, only, Goal, Soaks, Seq, Step, step, ◌$◌, move, drop, feq_i, feq_l, fsplit, fjoin}
+use types.Kit.{Item, ‵, ◌⊛◌, nth, only, Goal, Soaks, Seq, Step, step, ◌$◌, move, drop, split, join, feq_i, feq_l, fsplit, fjoin}
 use Rattle.std.specs.Borrow.{RattleType}
-use denote.Laws.{Is, Copy, shows}
-use denote.Ref.{MutBor, at_last, mut_vals}
+use denote.Laws.{Is, shows}
+use denote.Copied.{Copied}
+use denote.Opens.{Shut}
+use denote.Ref.{Bor, MutBor, at_last, mut_vals}
 use denote.Memory.{mem, shares as shares_of, cell_at}
-use types.Share.{arr_parts}
 use denote.Lend.{Held}
-use denote.Index.{others as but-one, place as place_of, elem_out, elem_put, elem_back, opens_slice, closes_slice, looks_slice}
+use denote.Index.{row, others as but-one, place as place_of, elem_out, elem_put, elem_back, opens_slice, closes_slice, looks_slice}
 use denote.Index.{shuts_slice}
 use types.SemTy.{Body as Lies}
 use denote.Struct.Steps.{spelt}
-use denote.Slice.{Room, slice_val, mut_slice_at, coded_holeys, heres}
+use denote.Slice.{Room, slice_val, shr_slice_at, mut_slice_at, coded_holeys, heres, elements_shared}
 use denote.Shadow.{pure_l, pure_i}
 use denote.Steps.{peeks, opens, closes, owned}
 use Rattle.walks.specs.Loan.{Mut, Shr, Ref}
-use Rattle.walks.specs.Positions.{rel, ins, others, puts, parted, placed, parted2, joined}
+use Rattle.walks.specs.Positions.{rel, ins, others, puts, parted, placed, placed_item, parted2}
+use Rattle.walks.specs.Positions.{parted2_item, joined}
 use Rattle.walks.specs.PlainData.{Plain}
 
 -- ---- a `&mut T` that the function itself reads and writes
@@ -84,15 +86,17 @@ Gap R κ q x vs i = fsep (mut_slice_at R x vs) (fsep (but-one (shares_of R) full
     (fsep (fobor κ q (Held R (length x.now) x.ref_ptr.0 x.ref_ptr.1 x.ghost_name))
     (fsep (fobs x.ghost_name ((coded_holeys R).code (heres R x.now))) (fauth x.ghost_name ((coded_holeys R).code (heres R x.now))))))
 
-abbrev pub View : (R : RattleType) → Lft → Share → Share → MutBor (List R.Denot) → List Val → ℕ → Fml
-View R κ q s x vs i = fsep (mut_slice_at R x vs) (fsep (fres x.ghost_name ((coded_holeys R).code (heres R x.now)))
-    (fsep (but-one (shares_of R) s x.now i x.ref_ptr.0 x.ref_ptr.1)
-    (fsep (fobor κ q ((arr_parts (shares_of R) (length x.now)).part s x.now x.ref_ptr.0 x.ref_ptr.1))
-    (fshr_bor κ (λ r. (arr_parts (shares_of R) (length x.now)).part r x.now x.ref_ptr.0 x.ref_ptr.1)))))
+abbrev pub View : {M : Type 1} {𝓤 : Ura M} (𝓛 : Logic 𝓤) (R : RattleType) → Lft → Share → Share → Bor (List R.Denot) → List Val → ℕ
+    → Item 𝓤
+View 𝓛 R κ q s x vs i = ‵ (fsep (shr_slice_at R x vs) (fsep (but-one (shares_of R) s x.now i x.ref_ptr.0 x.ref_ptr.1)
+    (fhide (elements_shared R x.now x.ref_ptr.0 x.ref_ptr.1 κ)))) ⊛ Shut 𝓛 κ q (row R s x.now x.ref_ptr.0 x.ref_ptr.1)
 
 -- the cell of the element at i
 abbrev pub cell_of : (R : RattleType) → Share → MutBor (List R.Denot) → ℕ → List Val → Fml
 cell_of R s x i us = cell_at s R.mir us x.ref_ptr.0 (place_of (mem R).size x.ref_ptr.1 i)
+
+abbrev pub shr_cell_of : (R : RattleType) → Share → Bor (List R.Denot) → ℕ → List Val → Fml
+shr_cell_of R s x i us = cell_at s R.mir us x.ref_ptr.0 (place_of (mem R).size x.ref_ptr.1 i)
 
 module _ {M : Type 1} {𝓤 : Ura M} {𝓛 : Logic 𝓤} {K : Type 0} (Γ : List (Item 𝓤)) {G : Goal 𝓤 𝓛.H} where
   elem-open : K → Soaks G → (j : ℕ) (R : RattleType) (pr : Plain 𝓛 R) (i : ℕ) (d : R.Denot) (κ : Lft) (q : Share)
@@ -128,33 +132,33 @@ module _ {M : Type 1} {𝓤 : Ura M} {𝓛 : Logic 𝓤} {K : Type 0} (Γ : List
       ) $ fjoin t $ fjoin t $
       joined Γ j m (Mut R κ q (at_last x zs) vs) k))
 
-  elem-look : K → Soaks G → (j : ℕ) (R : RattleType) (pr : Plain 𝓛 R) → Copy 𝓛 R → (i : ℕ) (d : R.Denot) (κ : Lft) (q : Share)
-      (x : MutBor (List R.Denot)) (vs : List Val)
+  elem-look : K → Soaks G → (j : ℕ) (R : RattleType) (pr : Plain 𝓛 R) → Copied 𝓛 R → (i : ℕ) (d : R.Denot) (κ : Lft) (q : Share)
+      (x : Bor (List R.Denot)) (vs : List Val)
       → nth 𝓛 j Γ ≡ ‵ (Shr R κ q x vs) → i < length x.now → ((s : Share) → Is R (get_or x.now i d) (pr.vals (get_or x.now i d))
-      → Seq K 𝓛 (puts 𝓛 (j ∷ []) (‵ (cell_of R s x i (pr.vals (get_or x.now i d))) ∷ []) Γ ++ (‵ (View R κ q s x vs i) ∷ [])) G)
+      → Seq K 𝓛 (puts 𝓛 (j ∷ []) (‵ (shr_cell_of R s x i (pr.vals (get_or x.now i d))) ∷ []) Γ ++ (View 𝓛 R κ q s x vs i ∷ [])) G)
       → Seq K 𝓛 Γ G
   elem-look t z j R pr cp i d κ q x vs e l k = parted Γ j (Shr R κ q x vs) e (
-      fsplit t $ fsplit t $ pure_l t (mut_slice_at R x vs) (λ p. fsplit t $ move t (1 ∷ 2 ∷ []) $
-      looks_slice t z R (Is R) (shows 𝓛 R) pr.vals pr.tells cp x.now x.ref_ptr.0 x.ref_ptr.1 (λ s.
+      fsplit t $ fsplit t $ pure_l t (shr_slice_at R x vs) (λ p.
+      looks_slice t z R cp x.now x.ref_ptr.0 x.ref_ptr.1 (λ s.
       elem_out t R (Is R) (shows 𝓛 R) pr.vals pr.tells s x.now i d x.ref_ptr.0 x.ref_ptr.1 l (λ is. move t (1 ∷ []) $ drop t $
-      -- [the element; the others; the open borrow; the borrow; res; the rest]
-      move t (2 ∷ 3 ∷ []) $ fjoin t $ move t (2 ∷ 0 ∷ []) $ fjoin t $ move t (2 ∷ 0 ∷ []) $ fjoin t
-      $ pure_i t (mut_slice_at R x vs) (tt, (tt, tt)) p $ fjoin t $ move t (1 ∷ 2 ∷ 0 ∷ []) $
-      placed Γ j (cell_of R s x i (pr.vals (get_or x.now i d))) (View R κ q s x vs i) (k s is)))))
+      -- [the element; the others; the token's way back; the elements as they are shared; the rest]
+      move t (1 ∷ 3 ∷ []) $ fjoin t $ pure_i t (shr_slice_at R x vs) (tt, (tt, tt)) p $ fjoin t $ move t (0 ∷ 2 ∷ []) $ join t $
+      move t (1 ∷ 2 ∷ 0 ∷ []) $
+      placed_item Γ j (shr_cell_of R s x i (pr.vals (get_or x.now i d))) (View 𝓛 R κ q s x vs i) (k s is)))))
 
   elem-shut : K → Soaks G → (j m : ℕ) (R : RattleType) (pr : Plain 𝓛 R) (i : ℕ) (d : R.Denot) (κ : Lft) (q s : Share)
-      (x : MutBor (List R.Denot)) (vs us : List Val)
-      → only 𝓛 (rel [] (j ∷ m ∷ [])) Γ ≡ (‵ (cell_of R s x i us) ∷ ‵ (View R κ q s x vs i) ∷ []) → i < length x.now
+      (x : Bor (List R.Denot)) (vs us : List Val)
+      → only 𝓛 (rel [] (j ∷ m ∷ [])) Γ ≡ (‵ (shr_cell_of R s x i us) ∷ View 𝓛 R κ q s x vs i ∷ []) → i < length x.now
       → Is R (get_or x.now i d) us
       → Seq K 𝓛 (ins 𝓛 j (‵ (Shr R κ q x vs)) (others 𝓛 (rel [] (j ∷ m ∷ [])) Γ)) G → Seq K 𝓛 Γ G
-  elem-shut t z j m R pr i d κ q s x vs us e l is k = parted2 Γ j m (cell_of R s x i us) (View R κ q s x vs i) e (
-      move t (1 ∷ []) $ fsplit t $ pure_l t (mut_slice_at R x vs) (λ p. fsplit t $ move t (1 ∷ []) $ fsplit t $ move t (1 ∷ []) $ fsplit t $
-      -- [the open borrow; the borrow; the others; res; the element; the rest]
-      owned t R (Is R) pr.makes (get_or x.now i d) us is $ move t (5 ∷ 0 ∷ 3 ∷ []) $ elem_back t R s x.now i d us x.ref_ptr.0
-      x.ref_ptr.1 l $
+  elem-shut t z j m R pr i d κ q s x vs us e l is k = parted2_item Γ j m (shr_cell_of R s x i us) (View 𝓛 R κ q s x vs i) e (
+      move t (1 ∷ []) $ split t $ fsplit t $ pure_l t (shr_slice_at R x vs) (λ p. fsplit t $
+      -- [the others; the elements as they are shared; the token's way back; the element; the rest]
+      owned t R (Is R) pr.makes (get_or x.now i d) us is $ move t (4 ∷ 0 ∷ 1 ∷ []) $ elem_back t R s x.now i d us x.ref_ptr.0
+      x.ref_ptr.1 l $ move t (0 ∷ 2 ∷ []) $
       shuts_slice t z R s x.now x.ref_ptr.0 x.ref_ptr.1 $
-      -- [the token; the borrow; res; the rest]
-      move t (2 ∷ 1 ∷ []) $ fjoin t $ pure_i t (mut_slice_at R x vs) (tt, (tt, tt)) p $ fjoin t $ fjoin t $ joined Γ j m (Shr R κ q x vs) k))
+      -- [the token; the elements as they are shared; the rest]
+      move t (1 ∷ []) $ pure_i t (shr_slice_at R x vs) (tt, (tt, tt)) p $ fjoin t $ fjoin t $ joined Γ j m (Shr R κ q x vs) k))
 
 module _ {M : Type 1} {𝓤 : Ura M} {𝓛 : Logic 𝓤} {K : Type 0} {Γ : List (Item 𝓤)} {G : Goal 𝓤 𝓛.H} where
   -- of the `&mut [T]` in entry j the element at i is taken out: entry j is its cell, and the last entry of the context is what is left
@@ -174,16 +178,16 @@ module _ {M : Type 1} {𝓤 : Ura M} {𝓛 : Logic 𝓤} {K : Type 0} {Γ : List
   closes-elem t z j m R pr i y {κ} {q} x {vs} us e l is = step (λ k. elem-close Γ t z j m R pr i y κ q x vs us e l is k)
 
   -- the same of a `&[T]`, to be read
-  pub looks-elem : K → Soaks G → (j : ℕ) (R : RattleType) (pr : Plain 𝓛 R) → Copy 𝓛 R
-      → (i : ℕ) (d : R.Denot) {κ : Lft} {q : Share} (x : MutBor (List R.Denot)) {vs : List Val}
+  pub looks-elem : K → Soaks G → (j : ℕ) (R : RattleType) (pr : Plain 𝓛 R) → Copied 𝓛 R
+      → (i : ℕ) (d : R.Denot) {κ : Lft} {q : Share} (x : Bor (List R.Denot)) {vs : List Val}
       → nth 𝓛 j Γ ≡ ‵ (Shr R κ q x vs) → i < length x.now → ((s : Share) → Is R (get_or x.now i d) (pr.vals (get_or x.now i d))
-      → Seq K 𝓛 (puts 𝓛 (j ∷ []) (‵ (cell_of R s x i (pr.vals (get_or x.now i d))) ∷ []) Γ ++ (‵ (View R κ q s x vs i) ∷ [])) G)
+      → Seq K 𝓛 (puts 𝓛 (j ∷ []) (‵ (shr_cell_of R s x i (pr.vals (get_or x.now i d))) ∷ []) Γ ++ (View 𝓛 R κ q s x vs i ∷ [])) G)
       → Seq K 𝓛 Γ G
   looks-elem t z j R pr cp i d {κ} {q} x {vs} e l k = elem-look Γ t z j R pr cp i d κ q x vs e l k
 
   pub shuts-elem : K → Soaks G → (j m : ℕ) (R : RattleType) (pr : Plain 𝓛 R) (i : ℕ) (d : R.Denot) (s : Share) {κ : Lft} {q : Share}
-      (x : MutBor (List R.Denot)) {vs : List Val} (us : List Val)
-      → only 𝓛 (rel [] (j ∷ m ∷ [])) Γ ≡ (‵ (cell_of R s x i us) ∷ ‵ (View R κ q s x vs i) ∷ []) → i < length x.now
+      (x : Bor (List R.Denot)) {vs : List Val} (us : List Val)
+      → only 𝓛 (rel [] (j ∷ m ∷ [])) Γ ≡ (‵ (shr_cell_of R s x i us) ∷ View 𝓛 R κ q s x vs i ∷ []) → i < length x.now
       → Is R (get_or x.now i d) us
       → Step K 𝓛 (ins 𝓛 j (‵ (Shr R κ q x vs)) (others 𝓛 (rel [] (j ∷ m ∷ [])) Γ)) G Γ G
   shuts-elem t z j m R pr i d s {κ} {q} x {vs} us e l is = step (λ k. elem-shut Γ t z j m R pr i d κ q s x vs us e l is k)

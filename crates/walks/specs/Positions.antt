@@ -3,6 +3,7 @@
 --     others π Γ, puts π ks Γ      Γ without its entries at π; and Γ with ks in their places
 --     parted, placed               entry j by itself beside the rest; another in its place, with one more at the end
 --     parted2, joined              the entries j and m by themselves beside the rest; one in their place, at j
+--     placed_item, parted2_item    `placed` and `parted2` where the second is any entry
 -- Assumes `Logic`.
 use Rattle.std.specs.Prelude.{◌≡◌, ℕ, zero, suc, List, [], ◌∷◌, ◌++◌, ltb, Bool, true, false}
 use Rattle.std.proofs.Common.{subst}
@@ -84,23 +85,31 @@ module _ {M : Type 1} {𝓤 : Ura M} {𝓛 : Logic 𝓤} {K : Type 0} (Γ : List
   }
 
   -- another in its place, and one more at the end
-  pub placed : (j : ℕ) (F L : Fml) → Seq K 𝓛 (puts 𝓛 (j ∷ []) (‵ F ∷ []) Γ ++ (‵ L ∷ [])) G
-      → Seq K 𝓛 (‵ F ∷ raw (⋆ 𝓛 (del 𝓛 j Γ)) ∷ ‵ L ∷ []) G
-  placed j F L k =
+  pub placed_item : (j : ℕ) (F : Fml) (L : Item 𝓤) → Seq K 𝓛 (puts 𝓛 (j ∷ []) (‵ F ∷ []) Γ ++ (L ∷ [])) G
+      → Seq K 𝓛 (‵ F ∷ raw (⋆ 𝓛 (del 𝓛 j Γ)) ∷ L ∷ []) G
+  placed_item j F L k =
       let Δ = puts 𝓛 (j ∷ []) (‵ F ∷ []) Γ in
       use2 𝓛 (raw (⋆ 𝓛 Δ)) (puts⊢ 𝓛 (j ∷ []) (‵ F ∷ []) Γ)
-      $ record { prf = via 𝓤 (⋆ 𝓛 (Δ ++ (‵ L ∷ []))) (++⊢ 𝓛 Δ (‵ L ∷ [])) k.prf }
+      $ record { prf = via 𝓤 (⋆ 𝓛 (Δ ++ (L ∷ []))) (++⊢ 𝓛 Δ (L ∷ [])) k.prf }
+
+  pub placed : (j : ℕ) (F L : Fml) → Seq K 𝓛 (puts 𝓛 (j ∷ []) (‵ F ∷ []) Γ ++ (‵ L ∷ [])) G
+      → Seq K 𝓛 (‵ F ∷ raw (⋆ 𝓛 (del 𝓛 j Γ)) ∷ ‵ L ∷ []) G
+  placed j F L k = placed_item j F (‵ L) k
 
   -- the entries j and m by themselves
-  pub parted2 : (j m : ℕ) (F L : Fml) → only 𝓛 (rel [] (j ∷ m ∷ [])) Γ ≡ (‵ F ∷ ‵ L ∷ [])
-      → Seq K 𝓛 (‵ F ∷ ‵ L ∷ raw (⋆ 𝓛 (others 𝓛 (rel [] (j ∷ m ∷ [])) Γ)) ∷ []) G → Seq K 𝓛 Γ G
-  parted2 j m F L e k =
+  pub parted2_item : (j m : ℕ) (F : Fml) (L : Item 𝓤) → only 𝓛 (rel [] (j ∷ m ∷ [])) Γ ≡ (‵ F ∷ L ∷ [])
+      → Seq K 𝓛 (‵ F ∷ L ∷ raw (⋆ 𝓛 (others 𝓛 (rel [] (j ∷ m ∷ [])) Γ)) ∷ []) G → Seq K 𝓛 Γ G
+  parted2_item j m F L e k =
       let Θ = ⋆ 𝓛 (others 𝓛 (rel [] (j ∷ m ∷ [])) Γ) in
       record {
-        prf = via 𝓤 (sep 𝓤 (⋆ 𝓛 (‵ F ∷ ‵ L ∷ [])) Θ)
+        prf = via 𝓤 (sep 𝓤 (⋆ 𝓛 (‵ F ∷ L ∷ [])) Θ)
             (subst (λ (Δ : List (Item 𝓤)). ent 𝓤 (⋆ 𝓛 Γ) (sep 𝓤 (⋆ 𝓛 Δ) Θ)) e (apart 𝓛 (rel [] (j ∷ m ∷ [])) Γ))
-            (via 𝓤 (sep 𝓤 (sem 𝓛 F) (sep 𝓤 (sem 𝓛 L) Θ)) (assoc∗ 𝓤 (sem 𝓛 F) (sem 𝓛 L) Θ) k.prf);
+            (via 𝓤 (sep 𝓤 (sem 𝓛 F) (sep 𝓤 (mean 𝓛 L) Θ)) (assoc∗ 𝓤 (sem 𝓛 F) (mean 𝓛 L) Θ) k.prf);
       }
+
+  pub parted2 : (j m : ℕ) (F L : Fml) → only 𝓛 (rel [] (j ∷ m ∷ [])) Γ ≡ (‵ F ∷ ‵ L ∷ [])
+      → Seq K 𝓛 (‵ F ∷ ‵ L ∷ raw (⋆ 𝓛 (others 𝓛 (rel [] (j ∷ m ∷ [])) Γ)) ∷ []) G → Seq K 𝓛 Γ G
+  parted2 j m F L e k = parted2_item j m F (‵ L) e k
 
   -- one in their place, at j
   pub joined : (j m : ℕ) (F : Fml) → Seq K 𝓛 (ins 𝓛 j (‵ F) (others 𝓛 (rel [] (j ∷ m ∷ [])) Γ)) G

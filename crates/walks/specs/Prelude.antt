@@ -19,8 +19,9 @@ pub use prog.Wp.{Heap, Env, Out, Wp, WpFn, Tables, at_return, after_seq, after_b
 unfoldable pub use prog.Wp.{after_turn}
 pub use ghost.Atoms.{Atoms}
 pub use contract.Monad.{Fun}
-unfoldable pub use contract.Running.{given_of, tables, tables_of}
-pub use types.Kit.{Given, Item, ‵, runs, any_q, at_ret, Sq, ◌$◌, ◌∵◌, !, by, rewrite}
+unfoldable pub use contract.Running.{tables, tables_of}
+pub use types.Logic.{Logic}
+pub use types.Kit.{Item, ‵, runs, any_q, at_ret, Sq, ◌$◌, ◌∵◌, !, by, rewrite}
 pub use types.Run.{look, look_raw, store_raw, init, hop, fld, addr, stop, from, load, lit, unit_lit, true_lit, false_lit, of_opd}
 pub use types.Run.{and_then, no_more, assigns, land, land_last, returns, returns_within, store, bin, first, blocks as Within-block, exec}
 pub use types.Run.{Below as Lower, again, loops}
