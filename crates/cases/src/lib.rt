@@ -3,39 +3,49 @@
 
 ghost use Rattle.std.specs.Prelude.{◌≤◌, length};
 
-use libc::STDOUT_FILENO;
 use numbers::Number;
+use std::io;
+use std::io::Read;
 
-pub fn write(text: &[u8]) {
-    io::write_all(STDOUT_FILENO, text);
+// All of standard input.
+pub fn read_input<R: Input + Alloc>(rt: &R) -> io::Result<Vec<u8, R::A>> {
+    let mut input = Vec::new(rt.alloc());
+    rt.reader().read_to_end(&mut input)?;
+    Ok(input)
 }
 
-pub fn write_number(n: u64) {
-    io::print_decimal(STDOUT_FILENO, n);
+pub fn write(rt: &impl Print, text: &[u8]) -> io::Result<()> {
+    rt.write_all(text)
+}
+
+pub fn write_number(rt: &impl Print, n: u64) -> io::Result<()> {
+    rt.print(n)
 }
 
 // Bytes in hexadecimal, in brackets.
-pub fn write_bytes(bytes: &[u8]) {
-    write(b"[");
+pub fn write_bytes(rt: &impl Print, bytes: &[u8]) -> io::Result<()> {
+    write(rt, b"[")?;
     let mut i = 0;
     while i < bytes.len() {
-        io::print_hex(STDOUT_FILENO, cells::u8_to_u64(bytes[i]), 2);
+        let byte = bytes[i];
+        print!(rt; "{byte:02x}")?;
         i += 1;
     }
-    write(b"]");
+    write(rt, b"]")
 }
 
 // The first count ids.
-pub fn write_ids(ids: &[u32], count: usize) {
+pub fn write_ids(rt: &impl Print, ids: &[u32], count: usize) -> io::Result<()> {
     let mut i = 0;
     while i < ids.len() {
         if count <= i {
-            return;
+            return Ok(());
         }
-        write(b" ");
-        write_number(cells::u32_to_u64(ids[i]));
+        write(rt, b" ")?;
+        write_number(rt, cells::u32_to_u64(ids[i]))?;
         i += 1;
     }
+    Ok(())
 }
 
 // The byte that two hexadecimal digits spell, 0 if they do not.

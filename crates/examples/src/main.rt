@@ -6,118 +6,120 @@
 #![tactic(auto)]
 
 use cases::{unhex, write, write_bytes, write_number};
-use libc::STDIN_FILENO;
 use line::{Fields, NextLine};
 use literal::Literal;
 use numbers::Number;
+use std::io;
 
 mod decode;
 mod runs;
 mod texts;
 
 // What a literal of an edition stands for, of at most 64 bytes.
-fn literal_case(text: &[u8], edition: u32) {
+fn literal_case(rt: &impl Print, text: &[u8], edition: u32) -> io::Result<()> {
     let mut bytes = [0u8; 64];
     match literal::parse_python_literal_into(text, edition, &mut bytes) {
         Literal::Length(n) => {
             if n <= 64 {
-                write_bytes(&bytes[..n]);
+                write_bytes(rt, &bytes[..n])?;
             }
+            Ok(())
         }
-        Literal::Bad => write(b"refused 12"),
+        Literal::Bad => write(rt, b"refused 12"),
     }
 }
 
 // A number, or the refusal of one that is bad.
-fn number_case(text: &[u8], limit: u64, refusal: u64) {
+fn number_case(rt: &impl Print, text: &[u8], limit: u64, refusal: u64) -> io::Result<()> {
     match numbers::digits(text, limit) {
-        Number::Value(v) => write_number(v),
+        Number::Value(v) => write_number(rt, v),
         Number::Bad => {
-            write(b"refused ");
-            write_number(refusal);
+            write(rt, b"refused ")?;
+            write_number(rt, refusal)
         }
     }
 }
 
 // The value of a byte as a hexadecimal digit, if it is one.
-fn digit_case(text: &[u8]) {
+fn digit_case(rt: &impl Print, text: &[u8]) -> io::Result<()> {
     if text.len() == 0 {
-        return;
+        return Ok(());
     }
     match numbers::hex_digit(text[0]) {
-        Number::Value(v) => write_number(v),
-        Number::Bad => write(b"none"),
+        Number::Value(v) => write_number(rt, v),
+        Number::Bad => write(rt, b"none"),
     }
 }
 
 // The three fields of a line, or its refusal.
-fn fields_case(text: &[u8]) {
+fn fields_case(rt: &impl Print, text: &[u8]) -> io::Result<()> {
     match line::split_fields(text) {
         Fields::Found { first, last } => {
-            write_bytes(&text[..first]);
-            write_bytes(&text[first + 1..last]);
-            write_bytes(&text[last + 1..]);
+            write_bytes(rt, &text[..first])?;
+            write_bytes(rt, &text[first + 1..last])?;
+            write_bytes(rt, &text[last + 1..])
         }
-        Fields::Blank => write(b"refused 3"),
-        Fields::NoSpace => write(b"refused 4"),
-        Fields::Misplaced => write(b"refused 5"),
+        Fields::Blank => write(rt, b"refused 3"),
+        Fields::NoSpace => write(rt, b"refused 4"),
+        Fields::Misplaced => write(rt, b"refused 5"),
     }
 }
 
 // The lines of a text.
-fn lines_case(text: &[u8]) {
+fn lines_case(rt: &impl Print, text: &[u8]) -> io::Result<()> {
     let mut at = 0;
     while at < text.len() {
         let NextLine::Line { end, next } = line::next_line(text, at) else {
-            return;
+            return Ok(());
         };
-        write_bytes(&text[at..end]);
+        write_bytes(rt, &text[at..end])?;
         at = next;
     }
+    Ok(())
 }
 
-fn answer(kind: u8, bytes: &[u8]) {
+fn answer(rt: &impl Print, kind: u8, bytes: &[u8]) -> io::Result<()> {
     match kind {
-        b'L' => literal_case(bytes, 1),
-        b'M' => literal_case(bytes, 2),
-        b'F' => fields_case(bytes),
-        b'T' => lines_case(bytes),
-        b'I' => number_case(bytes, 4294967295, 6),
-        b'N' => number_case(bytes, 18446744073709551615, 11),
-        b'H' => digit_case(bytes),
-        b'U' => write_number(runs::good(bytes) as u64),
-        b'S' => runs::runs_case(bytes),
-        b'B' => texts::text_case(bytes),
-        b'D' | b'X' | b'Y' => decode::decode_case(kind, bytes),
-        _ => write(b"?"),
+        b'L' => literal_case(rt, bytes, 1),
+        b'M' => literal_case(rt, bytes, 2),
+        b'F' => fields_case(rt, bytes),
+        b'T' => lines_case(rt, bytes),
+        b'I' => number_case(rt, bytes, 4294967295, 6),
+        b'N' => number_case(rt, bytes, 18446744073709551615, 11),
+        b'H' => digit_case(rt, bytes),
+        b'U' => write_number(rt, runs::good(bytes) as u64),
+        b'S' => runs::runs_case(rt, bytes),
+        b'B' => texts::text_case(rt, bytes),
+        b'D' | b'X' | b'Y' => decode::decode_case(rt, kind, bytes),
+        _ => write(rt, b"?"),
     }
 }
 
-fn one_case(case: &[u8]) {
+fn one_case(rt: &impl Print, case: &[u8]) -> io::Result<()> {
     if case.len() < 2 {
-        return;
+        return Ok(());
     }
     let mut bytes = [0u8; 64];
     let n = unhex(&case[2..], &mut bytes);
-    write(case);
-    write(b": ");
-    answer(case[0], &bytes[..n]);
-    write(b"\n");
+    write(rt, case)?;
+    write(rt, b": ")?;
+    answer(rt, case[0], &bytes[..n])?;
+    write(rt, b"\n")
 }
 
-fn all_cases(input: &[u8]) {
+fn all_cases(rt: &impl Print, input: &[u8]) -> io::Result<()> {
     let mut at = 0;
     while at < input.len() {
         let NextLine::Line { end, next } = line::next_line(input, at) else {
-            return;
+            return Ok(());
         };
-        one_case(&input[at..end]);
+        one_case(rt, &input[at..end])?;
         at = next;
     }
+    Ok(())
 }
 
-fn main() {
-    let mut input = io::large_buffer();
-    let n = io::read_full(STDIN_FILENO, &mut input);
-    all_cases(&input[..n]);
+fn main(rt: HostRuntime) -> io::Result<()> {
+    let input = cases::read_input(&rt)?;
+    all_cases(&rt, &input)
 }

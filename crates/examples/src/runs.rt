@@ -2,6 +2,7 @@
 ghost use Rattle.std.specs.Prelude.{◌≤◌};
 
 use cases::{write_bytes, write_number};
+use std::io;
 use utf8::Text;
 
 // How many bytes there are before the first that is not UTF-8.
@@ -44,14 +45,14 @@ fn run_end(start: &[u8], low: u8) -> u8
 }
 
 // Each such run with its ends, and how many bytes are good with it.
-pub fn runs_case(start: &[u8]) {
+pub fn runs_case(rt: &impl Print, start: &[u8]) -> io::Result<()> {
     let mut low: u8 = 0;
     loop {
         let high = run_end(start, low);
-        write_bytes(&[low, high]);
-        write_number(good_with(start, low) as u64);
+        write_bytes(rt, &[low, high])?;
+        write_number(rt, good_with(start, low) as u64)?;
         if high == 255 {
-            return;
+            return Ok(());
         }
         low = high + 1;
     }

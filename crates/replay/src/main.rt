@@ -17,9 +17,9 @@ ghost use Rattle.spec.specs.Load.{table_room, vocabulary, load_on};
 ghost use Rattle.reports.specs.Report.{LoadReported};
 
 use cases::{write, write_number};
-use libc::STDIN_FILENO;
 use line::NextLine;
 use nodes::Node;
+use std::io;
 
 // The byte at a place, 0 past the end.
 fn one(case: &[u8], i: usize) -> usize
@@ -32,17 +32,23 @@ fn one(case: &[u8], i: usize) -> usize
 }
 
 // A number of the report.
-fn write_next(n: u64) {
-    write(b" ");
-    write_number(n);
+fn write_next(rt: &impl Print, n: u64) -> io::Result<()> {
+    write(rt, b" ")?;
+    write_number(rt, n)
 }
 
 // The refusal's number, and the report.
-fn write_report(number: u32, count: u64, place: u64, value: u64) {
-    write_number(cells::u32_to_u64(number));
-    write_next(count);
-    write_next(place);
-    write_next(value);
+fn write_report(
+    rt: &impl Print,
+    number: u32,
+    count: u64,
+    place: u64,
+    value: u64,
+) -> io::Result<()> {
+    write_number(rt, cells::u32_to_u64(number))?;
+    write_next(rt, count)?;
+    write_next(rt, place)?;
+    write_next(rt, value)
 }
 
 // A load into memory for so many nodes.
@@ -128,6 +134,7 @@ fn load(
 
 // A load, and a sum over the whole of what it was given.
 fn load_all(
+    rt: &impl Print,
     text: &[u8],
     edition: u32,
     partial: bool,
@@ -138,7 +145,7 @@ fn load_all(
     table: &mut [u64],
     room: usize,
     blocks: usize,
-) -> u32
+) -> io::Result<u32>
     requires { (room ≤ 4096) × (blocks ≤ 16) }
 {
     let mut report = [0u64; 6];
@@ -155,24 +162,25 @@ fn load_all(
         blocks,
         &mut report,
     );
-    write_report(number, report[0], report[1], report[2]);
-    write_next(report[3]);
-    write_next(report[4]);
-    write_next(report[5]);
-    write(b" ");
-    sums::write_sum(offsets, blob, roots, table);
-    number
+    write_report(rt, number, report[0], report[1], report[2])?;
+    write_next(rt, report[3])?;
+    write_next(rt, report[4])?;
+    write_next(rt, report[5])?;
+    write(rt, b" ")?;
+    sums::write_sum(rt, offsets, blob, roots, table)?;
+    Ok(number)
 }
 
 // A load into as much of the memory as the case says.
 fn load_case(
+    rt: &impl Print,
     case: &[u8],
     single: &mut [i32],
     offsets: &mut [u32],
     blob: &mut [u8],
     roots: &mut [u64],
     table: &mut [u64],
-) -> u32 {
+) -> io::Result<u32> {
     let text = cells::smaller(7, case.len());
     let mode = one(case, 0);
     let room = cells::smaller(256 * one(case, 1) + one(case, 2), 4096);
@@ -180,6 +188,7 @@ fn load_case(
     let words = cells::smaller(256 * one(case, 5), table.len());
     let blocks = cells::smaller(one(case, 6), 16);
     load_all(
+        rt,
         &case[text..],
         1 + mode as u32 / 2,
         mode % 2 == 1,
@@ -194,6 +203,7 @@ fn load_case(
 }
 
 fn encode_case(
+    rt: &impl Print,
     case: &[u8],
     single: &[i32],
     offsets: &[u32],
@@ -201,7 +211,7 @@ fn encode_case(
     roots: &[u64],
     table: &[u64],
     ids: &mut [u32],
-) -> u32 {
+) -> io::Result<u32> {
     let mut report = [0u64; 3];
     let room = cells::smaller(one(case, 0), ids.len());
     let start = cells::smaller(1, case.len());
@@ -215,9 +225,9 @@ fn encode_case(
         &mut ids[..room],
         &mut report,
     );
-    write_report(number, report[0], report[1], report[2]);
-    cases::write_ids(ids, cells::u64_to_usize(report[0]));
-    number
+    write_report(rt, number, report[0], report[1], report[2])?;
+    cases::write_ids(rt, ids, cells::u64_to_usize(report[0]))?;
+    Ok(number)
 }
 
 fn decode(
@@ -243,6 +253,7 @@ fn decode(
 }
 
 fn decode_case(
+    rt: &impl Print,
     kind: u8,
     case: &[u8],
     single: &[i32],
@@ -252,7 +263,7 @@ fn decode_case(
     table: &[u64],
     ids: &mut [u32],
     out: &mut [u8],
-) -> u32 {
+) -> io::Result<u32> {
     let mut report = [0u64; 3];
     let start = cells::smaller(1, case.len());
     let count = cases::read_ids(&case[start..], ids);
@@ -268,15 +279,16 @@ fn decode_case(
         &mut out[..room],
         &mut report,
     );
-    write_report(number, report[0], report[1], report[2]);
-    write(b" ");
+    write_report(rt, number, report[0], report[1], report[2])?;
+    write(rt, b" ")?;
     let made = cells::smaller(cells::u64_to_usize(report[0]), out.len());
-    cases::write_bytes(&out[..made]);
-    number
+    cases::write_bytes(rt, &out[..made])?;
+    Ok(number)
 }
 
 // A case of any kind.
 fn answer(
+    rt: &impl Print,
     kind: u8,
     case: &[u8],
     single: &mut [i32],
@@ -284,17 +296,17 @@ fn answer(
     blob: &mut [u8],
     roots: &mut [u64],
     table: &mut [u64],
-) -> u32 {
+) -> io::Result<u32> {
     let mut ids = [0u32; 256];
     let mut out = [0u8; 256];
     if kind == b'L' {
-        return load_case(case, single, offsets, blob, roots, table);
+        return load_case(rt, case, single, offsets, blob, roots, table);
     }
     if kind == b'E' {
-        return encode_case(case, single, offsets, blob, roots, table, &mut ids);
+        return encode_case(rt, case, single, offsets, blob, roots, table, &mut ids);
     }
     decode_case(
-        kind, case, single, offsets, blob, roots, table, &mut ids, &mut out,
+        rt, kind, case, single, offsets, blob, roots, table, &mut ids, &mut out,
     )
 }
 
@@ -312,6 +324,7 @@ fn part(len: usize, short: usize, which: usize) -> usize
 
 // One line: its answer, on a line. `bytes` takes the bytes that it spells.
 fn one_case(
+    rt: &impl Print,
     case: &[u8],
     bytes: &mut [u8],
     single: &mut [i32],
@@ -319,9 +332,9 @@ fn one_case(
     blob: &mut [u8],
     roots: &mut [u64],
     table: &mut [u64],
-) -> u32 {
+) -> io::Result<u32> {
     if case.len() < 2 {
-        return 0;
+        return Ok(0);
     }
     let n = cases::unhex(&case[2..], bytes);
     let start = cells::smaller(1, n);
@@ -330,6 +343,7 @@ fn one_case(
     let few_offsets = part(offsets.len(), short, 2);
     let few_roots = part(roots.len(), short, 3);
     let number = answer(
+        rt,
         case[0],
         &bytes[start..n],
         &mut single[..few_single],
@@ -337,9 +351,9 @@ fn one_case(
         blob,
         &mut roots[..few_roots],
         table,
-    );
-    write(b"\n");
-    number
+    )?;
+    write(rt, b"\n")?;
+    Ok(number)
 }
 
 // One more case with this number.
@@ -351,6 +365,7 @@ fn count(number: u32, counts: &mut [u64]) {
 }
 
 fn all_cases(
+    rt: &impl Print,
     input: &[u8],
     bytes: &mut [u8],
     single: &mut [i32],
@@ -359,32 +374,42 @@ fn all_cases(
     roots: &mut [u64],
     table: &mut [u64],
     counts: &mut [u64],
-) {
+) -> io::Result<()> {
     let mut at = 0;
     while at < input.len() {
         let NextLine::Line { end, next } = line::next_line(input, at) else {
-            return;
+            return Ok(());
         };
-        let number = one_case(&input[at..end], bytes, single, offsets, blob, roots, table);
+        let number = one_case(
+            rt,
+            &input[at..end],
+            bytes,
+            single,
+            offsets,
+            blob,
+            roots,
+            table,
+        )?;
         count(number, counts);
         at = next;
     }
+    Ok(())
 }
 
-fn write_counts(counts: &[u64]) {
+fn write_counts(rt: &impl Print, counts: &[u64]) -> io::Result<()> {
     let mut i = 0;
     while i < counts.len() {
-        write(b"number ");
-        write_number(i as u64);
-        write(b": ");
-        write_number(counts[i]);
-        write(b" cases\n");
+        write(rt, b"number ")?;
+        write_number(rt, i as u64)?;
+        write(rt, b": ")?;
+        write_number(rt, counts[i])?;
+        write(rt, b" cases\n")?;
         i += 1;
     }
+    Ok(())
 }
 
-fn run(input: &mut [u8]) {
-    let n = io::read_full(STDIN_FILENO, input);
+fn run(rt: &impl Print, input: &[u8]) -> io::Result<()> {
     let mut bytes = [0u8; 8192];
     let mut single = [0i32; 256];
     let mut offsets = [0u32; 65537];
@@ -393,7 +418,8 @@ fn run(input: &mut [u8]) {
     let mut table = [0u64; 4096];
     let mut counts = [0u64; 35];
     all_cases(
-        &input[..n],
+        rt,
+        input,
         &mut bytes,
         &mut single,
         &mut offsets,
@@ -401,11 +427,11 @@ fn run(input: &mut [u8]) {
         &mut roots,
         &mut table,
         &mut counts,
-    );
-    write_counts(&counts);
+    )?;
+    write_counts(rt, &counts)
 }
 
-fn main() {
-    let mut input = [0u8; 1048576];
-    run(&mut input);
+fn main(rt: HostRuntime) -> io::Result<()> {
+    let input = cases::read_input(&rt)?;
+    run(&rt, &input)
 }

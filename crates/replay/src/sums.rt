@@ -1,9 +1,9 @@
 // A sum over offsets, blob, roots and table that depends on every cell and its place.
-use libc::STDOUT_FILENO;
+use std::io;
 
 // The sum with one number more.
 fn mixed(sum: u64, x: u64) -> u64 {
-    std::num::wrapping_add_u64(((sum << 5) | (sum >> 59)) ^ x, sum)
+    (((sum << 5) | (sum >> 59)) ^ x).wrapping_add(sum)
 }
 
 fn of_words(words: &[u64], start: u64) -> u64 {
@@ -37,10 +37,16 @@ fn of_bytes(bytes: &[u8], start: u64) -> u64 {
 }
 
 // The sum over four parts, in sixteen hexadecimal digits.
-pub fn write_sum(offsets: &[u32], blob: &[u8], roots: &[u64], table: &[u64]) {
+pub fn write_sum(
+    rt: &impl Print,
+    offsets: &[u32],
+    blob: &[u8],
+    roots: &[u64],
+    table: &[u64],
+) -> io::Result<()> {
     let numbers = of_numbers(offsets, 1);
     let bytes = of_bytes(blob, numbers);
     let starts = of_words(roots, bytes);
     let all = of_words(table, starts);
-    io::print_hex(STDOUT_FILENO, all, 16);
+    print!(rt; "{all:016x}")
 }

@@ -5,8 +5,7 @@ ghost use Rattle.spec.specs.Decode.{decode_on, decode_text_on, decode_lossy_on};
 ghost use Rattle.reports.specs.Report.{Reported};
 
 // The bytes of the ids, written from out's start.
-#[unsafe(no_mangle)]
-pub extern "C" fn rwkv_decode(
+pub fn rwkv_decode(
     single: &[i32],
     offsets: &[u32],
     blob: &[u8],
@@ -25,8 +24,7 @@ pub extern "C" fn rwkv_decode(
 }
 
 // The same, and that the bytes are UTF-8.
-#[unsafe(no_mangle)]
-pub extern "C" fn rwkv_decode_utf8(
+pub fn rwkv_decode_utf8(
     single: &[i32],
     offsets: &[u32],
     blob: &[u8],
@@ -45,8 +43,7 @@ pub extern "C" fn rwkv_decode_utf8(
 }
 
 // Lossy text.
-#[unsafe(no_mangle)]
-pub extern "C" fn rwkv_decode_lossy(
+pub fn rwkv_decode_lossy(
     single: &[i32],
     offsets: &[u32],
     blob: &[u8],

@@ -5,8 +5,7 @@ ghost use Rattle.spec.specs.Encode.{encode_on};
 ghost use Rattle.reports.specs.Report.{Reported};
 
 // The ids of src, written from out's start. The report: count, offset, byte.
-#[unsafe(no_mangle)]
-pub extern "C" fn rwkv_encode(
+pub fn rwkv_encode(
     single: &[i32],
     offsets: &[u32],
     blob: &[u8],

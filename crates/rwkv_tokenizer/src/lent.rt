@@ -8,8 +8,7 @@ ghost use Rattle.reports.specs.Leaves.{Leaves};
 use stream_record::Stream;
 
 // The next piece: the ids that it decides, written from out's start. The report: count, offset, byte.
-#[unsafe(no_mangle)]
-pub extern "C" fn rwkv_add(
+pub fn rwkv_add(
     single: &[i32],
     offsets: &[u32],
     blob: &[u8],
@@ -33,8 +32,7 @@ pub extern "C" fn rwkv_add(
 }
 
 // The end of the stream: the ids of the held bytes.
-#[unsafe(no_mangle)]
-pub extern "C" fn rwkv_end(
+pub fn rwkv_end(
     single: &[i32],
     offsets: &[u32],
     blob: &[u8],
@@ -55,8 +53,7 @@ pub extern "C" fn rwkv_end(
 }
 
 // A new stream.
-#[unsafe(no_mangle)]
-pub extern "C" fn rwkv_fresh(stream: &mut Stream)
+pub fn rwkv_fresh(stream: &mut Stream)
     ensures { record_of stream.new ≡ spec.fresh }
 {
     *stream = stream_record::fresh();

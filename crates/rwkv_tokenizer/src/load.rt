@@ -11,8 +11,7 @@ use nodes::Node;
 // of the refusal's place (0 none, 1 line, 2 offset, 3 byte) and the place, or the counts of tokens, nodes, blob bytes and table words. The
 // offset, of number 2, is that of the text's first bad byte. What `nodes` and the runs of marks hold afterwards is anything, but after 34,
 // 1 and 2 what they held.
-#[unsafe(no_mangle)]
-pub extern "C" fn rwkv_load(
+pub fn rwkv_load(
     text: &[u8],
     edition: u32,
     partial: bool,

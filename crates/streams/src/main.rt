@@ -3,11 +3,11 @@
 // cut into pieces at its spaces: how many give other ids or another refusal than the letters as a whole.
 #![tactic(auto)]
 
-ghost use Rattle.std.specs.Prelude.{◌≤◌, length};
+ghost use Rattle.std.specs.Prelude.{◌≤◌, length, IfOk};
 
 use cases::{write, write_ids, write_number};
 use encoding::Encoded;
-use libc::STDOUT_FILENO;
+use std::io;
 use stream_record::{Answer, Stream};
 
 // The ids so far, and the number of a refusal with its offset and byte, or zeros.
@@ -80,24 +80,30 @@ fn whole_outcome(encoded: Encoded) -> Outcome {
 }
 
 // A piece or the word end, the ids handed out, and the refusal if there is one.
-fn say(loud: bool, piece: &[u8], outcome: Outcome, ids: &[u32]) {
+fn say(
+    rt: &impl Print,
+    loud: bool,
+    piece: &[u8],
+    outcome: Outcome,
+    ids: &[u32],
+) -> io::Result<()> {
     if !loud {
-        return;
+        return Ok(());
     }
-    write(piece);
-    write(b":");
-    write_ids(ids, outcome.count);
+    write(rt, piece)?;
+    write(rt, b":")?;
+    write_ids(rt, ids, outcome.count)?;
     if outcome.number != 0 {
-        write(b" refused ");
-        write_number(outcome.number);
+        write(rt, b" refused ")?;
+        write_number(rt, outcome.number)?;
     }
     if outcome.number == 22 {
-        write(b" at ");
-        write_number(outcome.offset);
-        write(b" byte ");
-        io::print_hex(STDOUT_FILENO, outcome.byte, 2);
+        let byte = outcome.byte;
+        write(rt, b" at ")?;
+        write_number(rt, outcome.offset)?;
+        print!(rt; " byte {byte:02x}")?;
     }
-    write(b"\n");
+    write(rt, b"\n")
 }
 
 // So many ids more, as far as there is room for them.
@@ -128,6 +134,7 @@ fn word_end(words: &[u8], from: usize) -> usize
 
 // A stream that is given each word as a piece, and then ended; its ids go to `ids`.
 fn feed(
+    rt: &impl Print,
     single: &[i32],
     offsets: &[u32],
     blob: &[u8],
@@ -137,7 +144,7 @@ fn feed(
     words: &[u8],
     ids: &mut [u32],
     loud: bool,
-) -> Outcome {
+) -> io::Result<Outcome> {
     let mut now = start;
     let mut n: usize = 0;
     let mut from: usize = 0;
@@ -155,7 +162,7 @@ fn feed(
         );
         let answer = called.answer;
         let outcome = outcome_of(answer);
-        say(loud, &words[from..to], outcome, &ids[n..]);
+        say(rt, loud, &words[from..to], outcome, &ids[n..])?;
         now = called.stream;
         n = more(n, outcome.count, ids.len());
         from = to + 1;
@@ -163,13 +170,13 @@ fn feed(
     let called = stream::end(single, offsets, blob, roots, table, now, &mut ids[n..]);
     let answer = called.answer;
     let last = outcome_of(answer);
-    say(loud, b"end", last, &ids[n..]);
-    Outcome {
+    say(rt, loud, b"end", last, &ids[n..])?;
+    Ok(Outcome {
         count: more(n, last.count, ids.len()),
         number: last.number,
         offset: last.offset,
         byte: last.byte,
-    }
+    })
 }
 
 fn same_outcome(a: Outcome, b: Outcome) -> bool {
@@ -227,14 +234,15 @@ fn letters(b: u8) -> usize {
 
 // 0 if a stream of these words gives what their letters give as a whole, 1 if not.
 fn differs(
+    rt: &impl Print,
     single: &[i32],
     offsets: &[u32],
     blob: &[u8],
     roots: &[u64],
     table: &[u64],
     words: &[u8],
-) -> u32
-    ensures { result ≤ 1 }
+) -> io::Result<u32>
+    ensures { IfOk result (λ n. n ≤ 1) }
 {
     let mut src = [0u8; 8];
     let mut ids = [0u32; 8];
@@ -252,6 +260,7 @@ fn differs(
     );
     let whole = whole_outcome(encoded);
     let cut = feed(
+        rt,
         single,
         offsets,
         blob,
@@ -261,14 +270,14 @@ fn differs(
         words,
         &mut others,
         false,
-    );
+    )?;
     if !same_outcome(whole, cut) {
-        return 1;
+        return Ok(1);
     }
     if same_ids(&ids, &others, whole.count) {
-        0
+        Ok(0)
     } else {
-        1
+        Ok(1)
     }
 }
 
@@ -296,26 +305,28 @@ fn spell(code: u32, words: &mut [u8]) {
 
 // How many of the strings of seven letters and spaces with a code below `codes` differ.
 fn differing(
+    rt: &impl Print,
     single: &[i32],
     offsets: &[u32],
     blob: &[u8],
     roots: &[u64],
     table: &[u64],
     codes: u32,
-) -> u32 {
+) -> io::Result<u32> {
     let mut words = [0u8; 7];
     let mut n: u32 = 0;
     let mut code: u32 = 0;
     while code < codes {
         spell(code, &mut words);
-        n += differs(single, offsets, blob, roots, table, &words);
+        n += differs(rt, single, offsets, blob, roots, table, &words)?;
         code += 1;
     }
-    n
+    Ok(n)
 }
 
 // What each call of such a stream answers, one to a line.
 fn show(
+    rt: &impl Print,
     single: &[i32],
     offsets: &[u32],
     blob: &[u8],
@@ -324,25 +335,29 @@ fn show(
     start: Stream,
     words: &[u8],
     ids: &mut [u32],
-) {
-    feed(single, offsets, blob, roots, table, start, words, ids, true);
-    write(b"\n");
+) -> io::Result<()> {
+    feed(
+        rt, single, offsets, blob, roots, table, start, words, ids, true,
+    )?;
+    write(rt, b"\n")
 }
 
 // The document's examples; abc may go on to abcd, and c starts no token. A stopped stream says 22 again.
 fn examples(
+    rt: &impl Print,
     single: &[i32],
     offsets: &[u32],
     blob: &[u8],
     roots: &[u64],
     table: &[u64],
     ids: &mut [u32],
-) {
+) -> io::Result<()> {
     let fresh = stream_record::fresh();
-    show(single, offsets, blob, roots, table, fresh, b"ab b c", ids);
-    show(single, offsets, blob, roots, table, fresh, b"abc", ids);
-    show(single, offsets, blob, roots, table, fresh, b"c", ids);
+    show(rt, single, offsets, blob, roots, table, fresh, b"ab b c", ids)?;
+    show(rt, single, offsets, blob, roots, table, fresh, b"abc", ids)?;
+    show(rt, single, offsets, blob, roots, table, fresh, b"c", ids)?;
     show(
+        rt,
         single,
         offsets,
         blob,
@@ -351,26 +366,28 @@ fn examples(
         fresh,
         b"abcd a a b",
         ids,
-    );
-    show(single, offsets, blob, roots, table, fresh, b"abc x a", ids);
+    )?;
+    show(rt, single, offsets, blob, roots, table, fresh, b"abc x a", ids)
 }
 
 // 254 bytes are held: one x more makes a token, and anything else or the end stops the stream.
 fn held(
+    rt: &impl Print,
     single: &[i32],
     offsets: &[u32],
     blob: &[u8],
     roots: &[u64],
     table: &[u64],
     ids: &mut [u32],
-) {
+) -> io::Result<()> {
     let fresh = stream_record::fresh();
     let mut words = [b'x'; 256];
     words[254] = b' ';
-    show(single, offsets, blob, roots, table, fresh, &words, ids);
+    show(rt, single, offsets, blob, roots, table, fresh, &words, ids)?;
     words[255] = b'a';
-    show(single, offsets, blob, roots, table, fresh, &words, ids);
+    show(rt, single, offsets, blob, roots, table, fresh, &words, ids)?;
     show(
+        rt,
         single,
         offsets,
         blob,
@@ -379,33 +396,35 @@ fn held(
         fresh,
         &words[..254],
         ids,
-    );
+    )
 }
 
 // A total too great (25), a record that holds more than it took (26), one that ended (26), an output too short (24), short memory (1).
 fn refusals(
+    rt: &impl Print,
     single: &[i32],
     offsets: &[u32],
     blob: &[u8],
     roots: &[u64],
     table: &[u64],
     ids: &mut [u32],
-) {
+) -> io::Result<()> {
     let fresh = stream_record::fresh();
     let mut full = fresh;
     full.total = 4294967295;
-    show(single, offsets, blob, roots, table, full, b"a", ids);
+    show(rt, single, offsets, blob, roots, table, full, b"a", ids)?;
     let mut over = fresh;
     over.held_len = 1;
-    show(single, offsets, blob, roots, table, over, b"a", ids);
+    show(rt, single, offsets, blob, roots, table, over, b"a", ids)?;
     let mut ended = fresh;
     ended.phase = stream_record::ENDED;
-    show(single, offsets, blob, roots, table, ended, b"a", ids);
+    show(rt, single, offsets, blob, roots, table, ended, b"a", ids)?;
     let mut few = [0u32; 2];
     show(
+        rt,
         single, offsets, blob, roots, table, fresh, b"aab ab", &mut few,
-    );
-    show(single, offsets, blob, &[], table, fresh, b"a", ids);
+    )?;
+    show(rt, single, offsets, blob, &[], table, fresh, b"a", ids)
 }
 
 // The words of 255 times x: a node of n bytes has the base 256 n.
@@ -429,17 +448,24 @@ fn base_word(n: u64) -> u64
 }
 
 // Every run.
-fn all(single: &[i32], offsets: &[u32], blob: &[u8], roots: &[u64], table: &[u64]) {
+fn all(
+    rt: &impl Print,
+    single: &[i32],
+    offsets: &[u32],
+    blob: &[u8],
+    roots: &[u64],
+    table: &[u64],
+) -> io::Result<()> {
     let mut ids = [0u32; 256];
-    examples(single, offsets, blob, roots, table, &mut ids);
-    held(single, offsets, blob, roots, table, &mut ids);
-    refusals(single, offsets, blob, roots, table, &mut ids);
-    let n = differing(single, offsets, blob, roots, table, 78125);
-    write_number(cells::u32_to_u64(n));
-    write(b" of 78125 cuttings differ from the whole\n");
+    examples(rt, single, offsets, blob, roots, table, &mut ids)?;
+    held(rt, single, offsets, blob, roots, table, &mut ids)?;
+    refusals(rt, single, offsets, blob, roots, table, &mut ids)?;
+    let n = differing(rt, single, offsets, blob, roots, table, 78125)?;
+    write_number(rt, cells::u32_to_u64(n))?;
+    write(rt, b" of 78125 cuttings differ from the whole\n")
 }
 
-fn main() {
+fn main(rt: HostRuntime) -> io::Result<()> {
     let mut single = [-1i32; 256];
     single[0x61] = 1;
     single[0x62] = 2;
@@ -451,5 +477,5 @@ fn main() {
     table[257] = 0x464;
     chain(&mut roots, &mut table);
     let offsets = [0u32; 65537];
-    all(&single, &offsets, b"", &roots, &table);
+    all(&rt, &single, &offsets, b"", &roots, &table)
 }

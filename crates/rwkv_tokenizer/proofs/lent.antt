@@ -1,2 +1,0 @@
--- What the walks of the lent calls share.
-mod Rows

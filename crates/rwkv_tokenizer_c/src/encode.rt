@@ -1,0 +1,24 @@
+// Whole encoding.
+ghost use Rattle.std.specs.Prelude.{length};
+ghost use Rattle.spec.specs.Memory.{memory};
+ghost use Rattle.spec.specs.Encode.{encode_on};
+ghost use Rattle.reports.specs.Report.{Reported};
+
+// The ids of src, written from out's start. The report: count, offset, byte.
+#[unsafe(no_mangle)]
+pub extern "C" fn rwkv_encode(
+    single: &[i32],
+    offsets: &[u32],
+    blob: &[u8],
+    roots: &[u64],
+    table: &[u64],
+    src: &[u8],
+    out: &mut [u32],
+    report: &mut [u64; 3],
+) -> u32
+    ensures { Reported (encode_on
+        (memory single.now offsets.now blob.now roots.now table.now)
+        (length out.old) src.now) result report.new out.old out.new }
+{
+    rwkv_tokenizer::rwkv_encode(single, offsets, blob, roots, table, src, out, report)
+}
