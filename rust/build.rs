@@ -1,4 +1,4 @@
-//! Builds the proved static library with `rt`, if it isn't there or is older than its code, and links it. Where the environment
+//! Builds the proved static library with `rt lib`, if it isn't there or is older than its code, and links it. Where the environment
 //! variable RWKV_ORIGINAL names a folder with the Rust crate that this was ported from, that is built too, for comparison.
 use std::path::{Path, PathBuf};
 use std::process::Command;
@@ -15,17 +15,21 @@ fn main() {
     }
 }
 
-/// Has cargo link `target/staticlib/librwkv_tokenizer.a`.
+/// Has cargo link `target/staticlib/librwkv_tokenizer.a`, a copy of what `rt lib` writes for the crate `rwkv_tokenizer_c`.
 fn link_library(top: &Path) {
+    let library = top.join("crates").join("rwkv_tokenizer_c");
     let folder = top.join("target").join("staticlib");
     let archive = folder.join("librwkv_tokenizer.a");
     let code = code_of(&top.join("crates"));
     if changed(&archive) < code.iter().filter_map(|file| changed(file)).max() {
-        match Command::new("rt").args(["staticlib", "rwkv_tokenizer"]).current_dir(top).status() {
+        match Command::new("rt").arg("lib").current_dir(&library).status() {
             Ok(status) if status.success() => {}
-            Ok(status) => panic!("`rt staticlib rwkv_tokenizer` ended with {status}"),
+            Ok(status) => panic!("`rt lib` in {} ended with {status}", library.display()),
             Err(error) => panic!("`rt` could not be run, and {} is missing or old: {error}", archive.display()),
         }
+        fs::create_dir_all(&folder)
+            .and_then(|()| fs::copy(library.join("out").join("librwkv_tokenizer_c.a"), &archive))
+            .expect("a copy of the archive");
     }
     for file in code.iter().chain([&archive]) {
         println!("cargo:rerun-if-changed={}", file.display());
@@ -34,13 +38,15 @@ fn link_library(top: &Path) {
     println!("cargo:rustc-link-lib=static=rwkv_tokenizer");
 }
 
-/// Every file of Rattle code under a folder.
+/// Every file of Rattle code under a folder, but for what `rt` keeps in folders named out.
 fn code_of(folder: &Path) -> Vec<PathBuf> {
     let mut files = Vec::new();
     for entry in fs::read_dir(folder).into_iter().flatten().flatten() {
         let path = entry.path();
         if path.is_dir() {
-            files.extend(code_of(&path));
+            if entry.file_name() != "out" {
+                files.extend(code_of(&path));
+            }
         } else if path.extension().is_some_and(|extension| extension == "rt") {
             files.push(path);
         }
