@@ -111,7 +111,7 @@ end_right (begins a h r rs w f) =
 run-right : {h : List ℕ} (s : List ℕ) → Begun h → lossy (h ++ s) ≡ (run h s).out ++ (finish_of (run h s).held).out
 unfolding run
 run-right {h} [] k = rw (append-nil h) (end_right k)
-run-right {h} (b ∷ s) k = (push_right b k).1 s ∙ rw (append_assoc, run-right s (push_right b k).0)
+run-right {h} (b ∷ s) k = (push_right b k).1 s ∙ rw (append_assoc, run-right {h = (push_of h b).held} s (push_right b k).0)
 
 -- Lossy text: what the bytes bring, one after another from nothing held, and then the end.
 pub lossy-run : (s : List ℕ) → lossy s ≡ (run [] s).out ++ (finish_of (run [] s).held).out
@@ -131,7 +131,7 @@ run-well {h} (b ∷ s) k v =
     let q = (push_right b k).2 s v in
     let e : t.out ++ (t.held ++ s) ≡ h ++ b ∷ s =
     sym (append_assoc t.out t.held s) ∙ ap (λ l. l ++ s) q.0 ∙ append_snoc h b s in
-    ap (joined t) (run-well s (push_right b k).0 q.1) ∙ ap (λ l. record { out = l; held = [] }) e
+    ap (joined t) (run-well {h = t.held} s (push_right b k).0 q.1) ∙ ap (λ l. record { out = l; held = [] }) e
 
 -- UTF-8 goes through as it is, and nothing of it is held in the end.
 pub well_formed_run : (s : List ℕ) → well_formed s ≡ true → run [] s ≡ record { out = s; held = [] }

@@ -11,11 +11,7 @@ use lib.Seq.{take-nil, drop-nil}
 use Rattle.spec.specs.Utf8.{Range, ◌to◌, within, tail, grammar, after, replacement}
 use Rattle.reader.specs.Reader.{start, broken, taken, pushed, wants, push_of, finish_of}
 use Rattle.reader.proofs.ReaderLaws.{wants-two}
-use denote.Enum.Declared.{tag_of, declared}
-use Rattle.utf8.specs.declared.Lead.{Lead}
-use Rattle.utf8.specs.declared.Lead.TheVariants.{Nothing, Follow}
-use Rattle.utf8.specs.contracts.Lead.{enum}
-use Rattle.utf8.specs.Means.{ranges, lead_means}
+use Rattle.utf8.specs.Means.{ranges}
 use Rattle.utf8.proofs.Ranges.{after-at, after-longer}
 
 module _ (b : ℕ) where
@@ -39,10 +35,8 @@ module _ (b : ℕ) where
 no_ranges : (n low high : ℕ) → n ≡ 0 → length (ranges n low high) ≡ 0
 no_ranges n low high z = rw z
 
-pub start-long : (r : Lead) (b : ℕ) → tag_of (declared enum) r ≡ 1 → 0x80 ≤ b → lead_means r ≡ after b →
-    record { out = []; held = b ∷ [] } ≡ start b
-start-long Nothing b t h e = absurd (omega arith)
-start-long (Follow n low high) b t h e = start-more b n low high e (λ z.
+pub start-long : (b n low high : ℕ) → 0x80 ≤ b → some (ranges n low high) ≡ after b → record { out = []; held = b ∷ [] } ≡ start b
+start-long b n low high h e = start-more b n low high e (λ z.
     omega (arith, after-longer b (ranges n low high) h e, no_ranges n low high z))
 
 -- ── The held bytes, by their number ──────────────────────────────────
