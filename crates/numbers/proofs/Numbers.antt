@@ -1,19 +1,19 @@
 -- Numbers in digits, read from a place of a list: one law for each way a turn of a reader can go. Assumes nothing.
 use mathlib.Core.Path.{◌≡◌, refl, sym, ap, ap₂, ◌∙◌, subst}
-use mathlib.Core.Bool.{Bool, true, false, ◌&&◌, cond, false≢true}
+use mathlib.Core.Bool.{Bool, true, false, ◌&&◌, false≢true}
 use mathlib.Core.Option.{Option, none, some, bind}
 use mathlib.Core.List.{List, [], ◌∷◌}
-use Prim.Native.Nat.{ℕ, suc, ◌+◌, ◌*◌, ◌-◌, ◌/◌, ◌%◌, ◌^◌, ◌≤◌, ◌<◌}
+use Prim.Native.Nat.{ℕ, suc, ◌+◌, ◌*◌, ◌-◌, ◌^◌, ◌≤◌, ◌<◌}
 use native.Mathlib.Nat.{add-zero, le_of_eq, le_trans, pow-le-pow_right}
 use native.Mathlib.Numerals.{add-one}
 use native.Mathlib.Omega.{arith}
 use lib.ListN.{length, take, drop, get_or, length-drop, drop_of_length-le}
 use lib.Seq.{drop-cons, take_all}
-use lib.Bits.{bit_or}
 use lib.Dec.{eqb, leb}
 use borrow.Author.Tests.{le-leb, lt-leb, eqb-true}
 use Rattle.spec.specs.Utf8.{◌to◌, within}
 use Rattle.spec.specs.Digits.{digit, digits_after, at_most, digits, hex_digit, hex_after, octal_digit, Octal, octal_after, octal_run}
+use Rattle.numbers.proofs.HexCode.{hex_value, is_code, by_code}
 use Rattle.laws.specs.Tests.{all_below, below}
 use Rattle.laws.specs.LiteralLaws.{octal-some, octal-none, octal_count, octal_digits_lt, octal_run_lt}
 
@@ -104,20 +104,6 @@ too_much limit v (b ∷ s) h = go (digit b) (λ (d : ℕ). too_much limit (v * 1
     go (some d) f = f d
 
 -- ── Hexadecimal ──────────────────────────────────────────────────────
-
--- The arithmetic of `hex_digit`, as it stands there: the value that it gives a byte, that value's code, whether the byte is this code, and
--- so its answer.
-abbrev hex_value : ℕ → ℕ
-hex_value b = (b % 16 + 9 * (b / 64)) % 16
-
-abbrev hex_code : ℕ → ℕ
-hex_code b = 0x30 + hex_value b + 39 * (hex_value b / 10)
-
-abbrev is_code : ℕ → Bool
-is_code b = eqb (bit_or b (32 * (b / 64))) (hex_code b)
-
-abbrev by_code : ℕ → Option ℕ
-by_code b = cond (is_code b) (some (hex_value b)) none
 
 -- the same number, or none on both sides
 abbrev alike : Option ℕ → Option ℕ → Bool
