@@ -4,7 +4,6 @@ use Rattle.std.specs.Prelude.{cond, List, ℕ, ◌+◌, length, take}
 use Rattle.std.proofs.lemmas.List.Edits.{sets}
 use Rattle.spec.specs.Literal.{Read}
 use Rattle.literal.specs.declared.Literal.{Literal}
-use Rattle.literal.specs.declared.Literal.TheVariants as Literal
 use Rattle.spec.specs.Lists.{over}
 
 -- the length of a literal's bytes, or none

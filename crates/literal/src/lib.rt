@@ -95,7 +95,7 @@ fn quoted(text: &[u8], in_bytes: bool, edition: u32, res: &mut [u8]) -> Literal
     inside(&text[1..end], quote, in_bytes, edition, res)
 }
 
-// The bytes that a Python literal stands for in an edition, written to `result` as far as they fit; how many there are, or that the
+// The bytes that a Python literal stands for in an edition, written to `res` as far as they fit; how many there are, or that the
 // literal is bad. Of a bad literal the bytes before its first fault are written.
 pub fn parse_python_literal_into(text: &[u8], edition: u32, res: &mut [u8]) -> Literal
     ensures answer { length_of result ≡ map length (literal edition text.now) }
