@@ -33,7 +33,8 @@ use Rattle.slots.specs.declared.Front.{Front}
 in_fours : (x y e : ℕ) → e * 64 ≡ min (256 * x) (256 * y) → e ≡ 4 * min x y
 in_fours x y e h = omega arith
 
-whole-blocks : (t u b end : ℕ) → end ≡ 4 * min (min (t / 256) (min (u / 4) (b / 4))) 16777215 → (U B : List ℕ) → length U ≡ u → length B ≡ b
+whole-blocks : (t u b end : ℕ) → end ≡ 4 * min (min (t / 256) (min (u / 4) (b / 4))) 16777215
+    → (U B : List ℕ) → length U ≡ u → length B ≡ b
     → (end ≡ 0 → ⊥) → Bounds U B 4 end
 whole-blocks t u b end is U B eu eb z = record {
   from_le = omega (arith, z);

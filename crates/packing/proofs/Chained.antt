@@ -1,10 +1,9 @@
 -- The loop along the chain: what holds before each turn, what each way to leave it gives, and what the whole gives. Assumes nothing.
-use mathlib.Core.Path.{◌≡◌, refl, sym, ap, subst}
-use mathlib.Core.Bool.{Bool, true, false, not}
+use mathlib.Core.Path.{◌≡◌, sym, ap, subst}
+use mathlib.Core.Bool.{true, false}
 use mathlib.Core.List.{List}
 use Prim.Native.Nat.{ℕ, suc, ◌+◌, ◌-◌, ◌*◌, ◌≤◌}
 use native.Mathlib.Omega.{arith}
-use lib.Dec.{T}
 use lib.ListN.{length, replicate}
 use Rattle.spec.specs.Token.{Token, id_of}
 use Rattle.spec.specs.Trie.{nodes, node_count}
@@ -19,15 +18,6 @@ use Rattle.packing.specs.PlaceWalk.{Amid, Turn, Walked, Ended}
 use Rattle.slots.specs.Going.{Within}
 use Rattle.packing.proofs.Walked.{at_zero, no_fuel, past-made, full-ends, open-goes, begin}
 use Rattle.slots.specs.declared.Front.{Front}
-
--- what a flag that is tested says
-pub holds : (b : Bool) → T b → b ≡ true
-holds true _ = refl
-holds false h = absurd h
-
-pub fails : (b : Bool) → T (not b) → b ≡ false
-fails true h = absurd h
-fails false _ = refl
 
 pub bounds-now : {U B U₀ B₀ : List ℕ} {from end : ℕ} {at : Front} → Bounds U₀ B₀ from end → Within at end → length U ≡ length U₀
     → length B ≡ length B₀ → Bounds U B at.from end
@@ -72,18 +62,18 @@ module _ {m₀ : Nodes} {U₀ B₀ C₀ : List ℕ} {made first : ℕ} {at : Fro
   -- after a turn
   module _ {m' : Nodes} {U' B' C' : List ℕ} {r : Front} (z : node ≡ 0 → ⊥)
       (turn : Turn made node m U B C front end m' U' B' C' r × Within r end) where
-    pub at-full : T r.full → Done m₀ U₀ B₀ C₀ made first at end m' r
+    pub at-full : r.full ≡ true → Done m₀ U₀ B₀ C₀ made first at end m' r
     at-full y = (
-      (λ ps I goal em A. full-ends (turn.0 ps I goal fuel em z (along.1 ps I goal em A)) (holds r.full y)),
+      (λ ps I goal em A. full-ends (turn.0 ps I goal fuel em z (along.1 ps I goal em A)) y),
       turn.1,
     )
 
-    pub goes_on : T (not r.full) → (n : Node) (fuel' : ℕ) → n ≡ see m node → fuel' ≡ fuel - 1
+    pub goes_on : r.full ≡ false → (n : Node) (fuel' : ℕ) → n ≡ see m node → fuel' ≡ fuel - 1
         → Along m₀ U₀ B₀ C₀ made first at end m' U' B' C' n.tail r fuel'
     goes_on y n fuel' en ef = (
       turn.1,
       λ ps I goal em A. subst (λ (x : ℕ). Amid ps I goal m' U' B' C' n.tail x r end) (sym ef)
-          (open-goes (turn.0 ps I goal fuel em z (along.1 ps I goal em A)) (fails r.full y) (ap (λ (x : Node). x.tail) (sym en))),
+          (open-goes (turn.0 ps I goal fuel em z (along.1 ps I goal em A)) y (ap (λ (x : Node). x.tail) (sym en))),
     )
 
 -- ---- all nodes
