@@ -41,7 +41,8 @@ module _ {M : Type 1} {𝓤 : Ura M} {K : Type 0} (𝓛 : Logic 𝓤) (Γ : List
       → ((z : News ps) → ent 𝓤 (sep 𝓤 (sep 𝓤 (toksP 𝓛 (seen ps) (lfs ps κs z) (shs ps qs z))
       (sem 𝓛 (owns_p (seen ps) (lfs ps κs z) (dens ps a z) (seen_vss ps vss)))) (req z))
       (C f (row ps vss) (After 𝓛 (seen ps) (lfs ps κs z) (shs ps qs z) (dens ps a z) R (Ens z))))
-      → ((z : News ps) → ent 𝓤 (emp 𝓤) (req z)) → ((z : News ps) (r : R.Denot) (ws : Ends (seen ps)) → ent 𝓤 (Ens z r ws) (fact 𝓤 (Said r ws)))
+      → ((z : News ps) → ent 𝓤 (emp 𝓤) (req z))
+      → ((z : News ps) (r : R.Denot) (ws : Ends (seen ps)) → ent 𝓤 (Ens z r ws) (fact 𝓤 (Said r ws)))
       → only 𝓛 π Γ ≡ holds 𝓛 ps κs qs a vss → Opds K 𝓛 (others 𝓛 π Γ) E xs (row ps vss)
       → (after : Val → Goal 𝓤 H) → ((w : Val) → Soaks (after w))
       → ((w : Val) (r : R.Denot) (ws : Ends (seen ps)) → Long ps a (unseen ps ws) → Is R r (w ∷ []) → Said r ws
@@ -72,9 +73,9 @@ module _ {M : Type 1} {𝓤 : Ura M} {K : Type 0} (𝓛 : Logic 𝓤) (Γ : List
       via 𝓤 (H.⇛ (aim 𝓤 H (after w)))
       (qed 𝓛 (raw (Q z w) ∷ (‵ (Ks z) ⊛ raw (⋆ 𝓛 Θ)) ∷ []) ∵ updating ! $
       use1 𝓛 (later (exists (λ (r : R.Denot). (raw (Ts z) ⊛ ‵ (R.own_val r (w ∷ [])))
-      ⊛ exists (λ (ws : Ends (seen ps)). ‵ (lasts_p (seen ps) (lfs ps κs z) (dens ps a z) ws) ⊛ raw (Ens z r ws))))) (id⊢ 𝓤 _) $ await ! tt $
-      pick ! (λ r. split ! $ split ! $ move ! (1 ∷ []) $ peeks ! R (Is R) (shows 𝓛 R) r (w ∷ []) (λ is. drop ! $ move ! (1 ∷ [])
-      $ pick ! (λ ws. split ! $
+      ⊛ exists (λ (ws : Ends (seen ps)). ‵ (lasts_p (seen ps) (lfs ps κs z) (dens ps a z) ws) ⊛ raw (Ens z r ws))))) (id⊢ 𝓤 _) $
+      await ! tt $ pick ! (λ r. split ! $ split ! $ move ! (1 ∷ []) $
+      peeks ! R (Is R) (shows 𝓛 R) r (w ∷ []) (λ is. drop ! $ move ! (1 ∷ []) $ pick ! (λ ws. split ! $
       move ! (1 ∷ []) $ use1 𝓛 (given (Said r ws) (‵ ftrue)) (tells z r ws) $ learn ! (λ said. drop ! $
       -- [the last values; the tokens; what was kept and the rest]
       move ! (1 ∷ 0 ∷ []) $ join ! $ move ! (1 ∷ []) $ split ! $ move ! (2 ∷ 0 ∷ []) $ join ! $
@@ -116,7 +117,8 @@ module _ {M : Type 1} {𝓤 : Ura M} {𝓛 : Logic 𝓤} {K : Type 0} {Γ : List
       {Said : R.Denot → Ends (seen ps) → Type 0}
       → ((z : News ps) → ent 𝓤 (Asked 𝓛 ps t z (req z))
       (𝓣.C f (row ps t.4) (After 𝓛 (seen ps) (at ps t z).0 (at ps t z).1 (at ps t z).3 R (Ens z))))
-      → ((z : News ps) → ent 𝓤 (emp 𝓤) (req z)) → ((z : News ps) (r : R.Denot) (ws : Ends (seen ps)) → ent 𝓤 (Ens z r ws) (fact 𝓤 (Said r ws)))
+      → ((z : News ps) → ent 𝓤 (emp 𝓤) (req z))
+      → ((z : News ps) (r : R.Denot) (ws : Ends (seen ps)) → ent 𝓤 (Ens z r ws) (fact 𝓤 (Said r ws)))
       → only 𝓛 (rel [] π) Γ ≡ holds 𝓛 ps t.0 t.1 t.3 t.4 → Opds K 𝓛 (others 𝓛 (rel [] π) Γ) E xs (row ps t.4)
       → ((w : Val) (r : R.Denot) (ws : Ends (seen ps)) → Long ps t.3 (unseen ps ws) → Is R r (w ∷ []) → Said r ws
       → Seq K 𝓛 (Back 𝓛 ps t π Γ (unseen ps ws)) (lands 𝓣.C Λ E d w rest q))
@@ -133,7 +135,8 @@ module _ {M : Type 1} {𝓤 : Ura M} {𝓛 : Logic 𝓤} {K : Type 0} {Γ : List
       {Said : R.Denot → Ends (seen ps) → Type 0}
       → ((z : News ps) → ent 𝓤 (Asked 𝓛 ps t z (req z))
       (𝓣.C f (row ps t.4) (After 𝓛 (seen ps) (at ps t z).0 (at ps t z).1 (at ps t z).3 R (Ens z))))
-      → ((z : News ps) → ent 𝓤 (emp 𝓤) (req z)) → ((z : News ps) (r : R.Denot) (ws : Ends (seen ps)) → ent 𝓤 (Ens z r ws) (fact 𝓤 (Said r ws)))
+      → ((z : News ps) → ent 𝓤 (emp 𝓤) (req z))
+      → ((z : News ps) (r : R.Denot) (ws : Ends (seen ps)) → ent 𝓤 (Ens z r ws) (fact 𝓤 (Said r ws)))
       → only 𝓛 (rel [] π) Γ ≡ holds 𝓛 ps t.0 t.1 t.3 t.4 → Opds K 𝓛 (others 𝓛 (rel [] π) Γ) E xs (row ps t.4)
       → ((w : Val) (r : R.Denot) (ws : Ends (seen ps)) → Long ps t.3 (unseen ps ws) → Is R r (w ∷ []) → Said r ws
       → Seq K 𝓛 (Back 𝓛 ps t π Γ (unseen ps ws)) (settles E d w q))
@@ -154,7 +157,8 @@ module _ {M : Type 1} {𝓤 : Ura M} {𝓛 : Logic 𝓤} {K : Type 0} {Γ : List
       {Said : R.Denot → Ends (seen ps) → Type 0}
       → ((z : News ps) → ent 𝓤 (Asked 𝓛 ps t z (req z))
       (𝓣.C f (row ps t.4) (After 𝓛 (seen ps) (at ps t z).0 (at ps t z).1 (at ps t z).3 R (Ens z))))
-      → ((z : News ps) → ent 𝓤 (emp 𝓤) (req z)) → ((z : News ps) (r : R.Denot) (ws : Ends (seen ps)) → ent 𝓤 (Ens z r ws) (fact 𝓤 (Said r ws)))
+      → ((z : News ps) → ent 𝓤 (emp 𝓤) (req z))
+      → ((z : News ps) (r : R.Denot) (ws : Ends (seen ps)) → ent 𝓤 (Ens z r ws) (fact 𝓤 (Said r ws)))
       → only 𝓛 (rel [] π) Γ ≡ holds 𝓛 ps t.0 t.1 t.3 t.4 → Opds K 𝓛 (others 𝓛 (rel [] π) Γ) E xs (row ps t.4)
       → {Γ' : Ends ps → Val → List (Item 𝓤)} → R.mir ≡ (spot_of 𝓤 H E i).0 ∷ []
       → ((ws : Ends ps) (v : Val) → T (has_ty (spot_of 𝓤 H E i).0 v) × WT v

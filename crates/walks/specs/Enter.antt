@@ -6,7 +6,6 @@
 -- Assumes `Logic`.
 use Rattle.std.specs.Prelude.{◌≡◌, refl, List, [], ◌∷◌, ◌++◌, length}
 use Rattle.std.proofs.Common.{sym, subst}
-use Rattle.std.proofs.Math.Option.{none}
 use seplogic.Ra.Ura.{Ura}
 use mir.Syntax.{Ty, erased}
 use mir.Val.{Val}

@@ -40,12 +40,13 @@ abbrev Open : (R : RattleType) → Lft → Share → GName → ℕ → ℕ → L
 Open R κ q γ b o ys = fsep (fobor κ q (Held R (length ys) b o γ)) (fsep (fobs γ ((coded_holeys R).code (heres R ys)))
     (fauth γ ((coded_holeys R).code (heres R ys))))
 
--- what the holder keeps while the slice is lent. As a `&[T]`: half of κ's token opens the borrow, and the other half, by which the elements
+-- what the holder keeps while the slice is lent as a `&[T]`: half of κ's token opens the borrow, and the other half, by which the elements
 -- are shared out, is kept too
 abbrev pub Shared : (R : RattleType) → Lft → Share → GName → ℕ → ℕ → List R.Denot → ℕ → Fml
 Shared R κ q γ b o ys ν = fsep (flent (ν ∷ []) ((arr_parts (shares R) (length ys)).part full_share ys b o))
     (fsep (Open R κ (Share.left q) γ b o ys) (flft κ (Share.right q)))
 
+-- and as a `&mut [T]`
 abbrev pub Again : (R : RattleType) → Lft → Share → GName → ℕ → ℕ → List R.Denot → ℕ → GName → Fml
 Again R κ q γ b o ys ν δ = fsep (flent (ν ∷ []) (Held R (length ys) b o δ)) (Open R κ q γ b o ys)
 
@@ -55,8 +56,8 @@ module _ {M : Type 1} {𝓤 : Ura M} {𝓛 : Logic 𝓤} {K : Type 0} {Γ : List
       → (Room R (length ys) → Seq K 𝓛 (‵ (row R full_share ys b o) ∷ ‵ (Open R κ q γ b o ys) ∷ Γ) G)
       → Seq K 𝓛 (‵ ((MutSlice ℓ κ R).own_val (at-list b o γ ys) (slice_val (b, o) (length ys) ∷ [])) ∷ ‵ (flft κ q) ∷ Γ) G
   opened t z ℓ R κ q γ b o ys k =
-      fsplit t $ pure_l t (mut_slice_at R (at-list b o γ ys) (slice_val (b, o) (length ys) ∷ [])) (λ p. fsplit t $ opens_slice t z R ys b o $
-      move t (2 ∷ 3 ∷ []) $ fjoin t $ move t (2 ∷ 0 ∷ []) $ fjoin t $ move t (1 ∷ 0 ∷ []) $ k p.1)
+      fsplit t $ pure_l t (mut_slice_at R (at-list b o γ ys) (slice_val (b, o) (length ys) ∷ [])) (λ p. fsplit t $
+      opens_slice t z R ys b o $ move t (2 ∷ 3 ∷ []) $ fjoin t $ move t (2 ∷ 0 ∷ []) $ fjoin t $ move t (1 ∷ 0 ∷ []) $ k p.1)
 
   -- and closed at zs
   closed : K → Soaks G → (ℓ : Lifetime) (R : RattleType) (κ : Lft) (q : Share) (γ : GName) (b o : ℕ) (ys zs : List R.Denot)
@@ -115,8 +116,8 @@ module _ {M : Type 1} {𝓤 : Ura M} {𝓛 : Logic 𝓤} {K : Type 0} {Γ : List
 
   pub ends-mut : K → Soaks G → (ℓ : Lifetime) (R : RattleType) (κ : Lft) (q : Share) (γ : GName) (b o : ℕ) (ys zs : List R.Denot)
       (ν : ℕ) (δ : GName) → Room R (length ys) → length zs ≡ length ys
-      → Step K 𝓛 (‵ ((MutSlice ℓ κ R).own_val (at-list b o γ zs) (slice_val (b, o) (length ys) ∷ [])) ∷ ‵ (flft κ q) ∷ Γ) G (‵ (finally R δ zs)
-      ∷ ‵ (flft (ν ∷ []) full_share) ∷ ‵ (Again R κ q γ b o ys ν δ) ∷ Γ) G
+      → Step K 𝓛 (‵ ((MutSlice ℓ κ R).own_val (at-list b o γ zs) (slice_val (b, o) (length ys) ∷ [])) ∷ ‵ (flft κ q) ∷ Γ) G
+      (‵ (finally R δ zs) ∷ ‵ (flft (ν ∷ []) full_share) ∷ ‵ (Again R κ q γ b o ys ν δ) ∷ Γ) G
   ends-mut t z ℓ R κ q γ b o ys zs ν δ room e = step (λ s. move t (1 ∷ []) $ lft_end t z $ move t (2 ∷ []) $ fsplit t
       $ move t (2 ∷ 0 ∷ 3 ∷ []) $
       use3 𝓛 (later (‵ ((Arr (mem R) (length ys)).own_at zs b o))) (slice_back 𝓛 R (ν ∷ []) δ zs (length ys) b o) $ await t z

@@ -3,6 +3,8 @@
 --     Par              how an argument is passed: by value; a `&[T]` copied; a `&mut [T]` lent as a `&[T]` (viewed) or as a `&mut [T]`
 --                      (lent); a `&mut T` lent as one (borrowed)
 --     Lfs, Shs, Dens, Vss, News, Ends     per list of arguments: lifetimes, shares, values, machine values, what a call makes, last values
+--     seen             the callee's own list, in which `viewed` is `copied`. unseen: its last values as the caller's
+--     Made             what the caller shows of what it passes by value, and of the elements of the `&[T]`s
 --     holds            what the caller has of its arguments, one entry for each reference: it, with its lifetime's token
 --     lend-all         holds a   to   ⇛ ∃ z. (what the callee asks, at z's lifetimes and names) ∗ what is kept
 --     end-all          (the tokens ∗ the last values) ∗ what was kept   to   ⇛ holds at the last values, which are as long
@@ -227,8 +229,8 @@ module _ {M : Type 1} {𝓤 : Ura M} (𝓛 : Logic 𝓤) where
   holds (lent R ∷ ps) κs qs a vss = ‵ (Mut R κs.0 qs.0 a.0 vss.0) ∷ holds ps κs.1 qs.1 a.1 vss.1
   holds (borrowed R ∷ ps) κs qs a vss = ‵ (Ref R κs.0 qs.0 a.0 vss.0) ∷ holds ps κs.1 qs.1 a.1 vss.1
 
-  -- what is passed by value is made for nothing. Of the elements of a `&[T]` that is copied, and of a `&mut [T]` that is lent as a `&[T]`, the
-  -- laws of what a `&T` holds: that it can be had twice, and that it is made
+  -- what is passed by value is made for nothing. Of a `&[T]` that is copied, what a `&T` holds can be had twice; of a `&mut [T]` that is
+  -- lent as a `&[T]`, a `&T` can be made, by a token of the slice's lifetime
   abbrev pub Made : (ps : List Par) → Lfs ps → Dens ps → Vss ps → Type 2
   Made [] κs a vss = Unit {2}
   Made (value R ∷ ps) κs a vss = ent 𝓤 (emp 𝓤) (sem 𝓛 (R.own_val a.0 vss.0)) × Made ps κs a.1 vss.1
@@ -281,8 +283,8 @@ module _ {M : Type 1} {𝓤 : Ura M} (𝓛 : Logic 𝓤) where
 
       end-shr : (ν : ℕ) → ent 𝓤 (sep 𝓤 (A.lft (ν ∷ []) full_share)
           (sem 𝓛 (fsep (mut_slice_at R x vs) (Shared R κ q x.ghost_name x.ref_ptr.0 x.ref_ptr.1 x.now ν)))) (H.⇛ (sem 𝓛 (Mut R κ q x vs)))
-      end-shr ν = qed 𝓛 (‵ (flft (ν ∷ []) full_share) ∷ ‵ (fsep (mut_slice_at R x vs) (Shared R κ q x.ghost_name x.ref_ptr.0 x.ref_ptr.1 x.now ν))
-          ∷ []) ∵ updating ! $
+      end-shr ν = qed 𝓛 (‵ (flft (ν ∷ []) full_share) ∷ ‵ (fsep (mut_slice_at R x vs)
+          (Shared R κ q x.ghost_name x.ref_ptr.0 x.ref_ptr.1 x.now ν)) ∷ []) ∵ updating ! $
           move ! (1 ∷ []) $ fsplit ! $ pure_l ! (mut_slice_at R x vs) (λ p. move ! (1 ∷ 0 ∷ []) $ nothing ! $
           ends-shared ! tt erased erased R κ q x.ghost_name x.ref_ptr.0 x.ref_ptr.1 x.now ν p.1 $
           rewrite ! 0 (λ (us : List Val). ‵ ((MutSlice erased κ R).own_val x us)) (sym p.0) refl $ at_once ! $ fjoin ! $ done !)
@@ -317,11 +319,13 @@ module _ {M : Type 1} {𝓤 : Ura M} (𝓛 : Logic 𝓤) where
           rewrite ! 0 (λ (us : List Val). ‵ ((MutRef erased κ R).own_val (at_last x w) us)) (sym e) refl $ at_once ! $ fjoin ! $ done !)
 
     abbrev pub Out : (ps : List Par) (κs : Lfs ps) (qs : Shs ps) (a : Dens ps) (vss : Vss ps) → News ps → SProp 𝓤
-    Out ps κs qs a vss z = sep 𝓤 (sep 𝓤 (toksP (seen ps) (lfs ps κs z) (shs ps qs z)) (sem 𝓛 (owns_p (seen ps) (lfs ps κs z) (dens ps a z) (seen_vss ps vss))))
+    Out ps κs qs a vss z = sep 𝓤 (sep 𝓤 (toksP (seen ps) (lfs ps κs z) (shs ps qs z))
+        (sem 𝓛 (owns_p (seen ps) (lfs ps κs z) (dens ps a z) (seen_vss ps vss))))
         (sem 𝓛 (kept_p ps κs qs a vss z))
 
     abbrev OutI : (ps : List Par) (κs : Lfs ps) (qs : Shs ps) (a : Dens ps) (vss : Vss ps) → News ps → Item 𝓤
-    OutI ps κs qs a vss z = (raw (toksP (seen ps) (lfs ps κs z) (shs ps qs z)) ⊛ ‵ (owns_p (seen ps) (lfs ps κs z) (dens ps a z) (seen_vss ps vss)))
+    OutI ps κs qs a vss z = (raw (toksP (seen ps) (lfs ps κs z) (shs ps qs z))
+        ⊛ ‵ (owns_p (seen ps) (lfs ps κs z) (dens ps a z) (seen_vss ps vss)))
         ⊛ ‵ (kept_p ps κs qs a vss z)
 
     pub lend-all : (ps : List Par) (κs : Lfs ps) (qs : Shs ps) (a : Dens ps) (vss : Vss ps) → Made ps κs a vss
@@ -390,11 +394,13 @@ module _ {M : Type 1} {𝓤 : Ura M} (𝓛 : Logic 𝓤) where
         $ move ! (1 ∷ 0 ∷ []) $ join ! $ done !))))
 
     abbrev pub In : (ps : List Par) (κs : Lfs ps) (qs : Shs ps) (a : Dens ps) (vss : Vss ps) → News ps → Ends (seen ps) → SProp 𝓤
-    In ps κs qs a vss z ws = sep 𝓤 (sep 𝓤 (toksP (seen ps) (lfs ps κs z) (shs ps qs z)) (sem 𝓛 (lasts_p (seen ps) (lfs ps κs z) (dens ps a z) ws)))
+    In ps κs qs a vss z ws = sep 𝓤 (sep 𝓤 (toksP (seen ps) (lfs ps κs z) (shs ps qs z))
+        (sem 𝓛 (lasts_p (seen ps) (lfs ps κs z) (dens ps a z) ws)))
         (sem 𝓛 (kept_p ps κs qs a vss z))
 
     abbrev InI : (ps : List Par) (κs : Lfs ps) (qs : Shs ps) (a : Dens ps) (vss : Vss ps) → News ps → Ends (seen ps) → Item 𝓤
-    InI ps κs qs a vss z ws = (raw (toksP (seen ps) (lfs ps κs z) (shs ps qs z)) ⊛ ‵ (lasts_p (seen ps) (lfs ps κs z) (dens ps a z) ws)) ⊛ ‵ (kept_p ps κs qs a vss z)
+    InI ps κs qs a vss z ws = (raw (toksP (seen ps) (lfs ps κs z) (shs ps qs z))
+        ⊛ ‵ (lasts_p (seen ps) (lfs ps κs z) (dens ps a z) ws)) ⊛ ‵ (kept_p ps κs qs a vss z)
 
     pub end-all : (ps : List Par) (κs : Lfs ps) (qs : Shs ps) (a : Dens ps) (vss : Vss ps) (z : News ps) (ws : Ends (seen ps))
         → ent 𝓤 (In ps κs qs a vss z ws) (H.⇛ (guard 𝓤 (Long ps a (unseen ps ws))

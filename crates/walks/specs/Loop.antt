@@ -1,7 +1,7 @@
 -- A walk as a whole, and a `while` in it.
 --     Walked, starts   what a walk proves, and its first step
---     whiles           a `while`: a type of states, a measure, and for each state what the locals hold (none: room) and what the lists are.
---                      The invariant is computed from these
+--     whiles           a `while`: a type of states, a measure, and for each state what the locals hold (none: room) and what the lists
+--                      are. The invariant is computed from these
 --     Turn, next-turn  a turn of it from a state, and its end at the next state, whose measure is smaller
 --     forgets          what these locals hold is forgotten, as at the end of a turn
 -- Assumes `Logic`.

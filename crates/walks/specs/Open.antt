@@ -121,7 +121,8 @@ module _ {M : Type 1} {𝓤 : Ura M} {𝓛 : Logic 𝓤} {K : Type 0} (Γ : List
       let zs = set x.now i y in
       let n = length-set x.now i y in
       parted2 Γ j m (cell_of R full_share x i us) (Gap R κ q x vs i) e (
-      move t (1 ∷ []) $ fsplit t $ pure_l t (mut_slice_at R x vs) (λ p. fsplit t $ move t (1 ∷ []) $ fsplit t $ move t (1 ∷ []) $ fsplit t $
+      move t (1 ∷ []) $ fsplit t $ pure_l t (mut_slice_at R x vs) (λ p. fsplit t $ move t (1 ∷ []) $ fsplit t $
+      move t (1 ∷ []) $ fsplit t $
       -- [obs; auth; the open borrow; the others; the element; the rest]
       owned t R (Is R) pr.makes y us is $ move t (5 ∷ 0 ∷ 4 ∷ []) $ elem_put t R full_share x.now i y us x.ref_ptr.0 x.ref_ptr.1 l $
       move t (0 ∷ 3 ∷ 1 ∷ 2 ∷ []) $ closes_slice t z R x.now zs n x.ref_ptr.0 x.ref_ptr.1 $ fjoin t $

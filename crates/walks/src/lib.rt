@@ -1,3 +1,2 @@
 // Lemmas for walks by hand: see specs/. No code stands here.
 #![tactic(auto)]
-
