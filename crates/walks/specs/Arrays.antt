@@ -1,6 +1,6 @@
 -- A local array in a walk by hand: `let mut a = [v; n]`, lent as a `&mut [T]`, all of it or its first elements. While it is lent, the
--- entry of the local is the slice of its memory, as a parameter's entry is, so that `calls-of` lends it on; what the lender keeps stands at
--- the END of the context, so that no other entry moves.
+-- entry of the local is the slice of its memory, as a parameter's entry is, so that `calls-of` lends it on; what the lender keeps stands
+-- at the END of the context, so that no other entry moves.
 --     repeated         n times a value of T is a value of `[T; n]`: with it `init` stores `[v; n]`
 --     lends_local, ends-local      entry i, the local's cell, becomes the slice, for a lifetime of its own; and the slice at its last list
 --                      becomes the local's room again, m the entry of what was kept

@@ -26,8 +26,8 @@
 --         sets ! 0 (of_opd ! (lit ! tt)) refl (tt, record { fits = seven }) $ returns ! (look ! 0 refl) $ leaves ! refl refl $
 --         by ! (ends_with 𝓛 ps pl κs qs a vss u64 size Ens (vint w64 7) 7 (refl, seven)
 --         (cs.0, (tt, (tt, tt))) (lc.0, tt) (said1 𝓛 ..)))))
--- with p₀ = viewed N.the_row ∷ value usize ∷ [] and t₀ = ((κs.0, tt), (qs.0, tt), tt, (a.0, (i, tt)), (vss.0, (vint w64 i ∷ [], tt))), and
--- p₁ and t₁ likewise.
+-- with p₀ = viewed N.the_row ∷ value usize ∷ [] and
+-- t₀ = ((κs.0, tt), (qs.0, tt), tt, (a.0, (i, tt)), (vss.0, (vint w64 i ∷ [], tt))), and p₁ and t₁ likewise.
 --     ps                       the parameters, in order: `lent R` is a `&mut [T]`, `copied R` a `&[T]`, `borrowed R` a `&mut T`, `value R` by
 --                              value
 --     pl                       for each parameter by value what is known of its type: `uint_plain`, `struct_plain`, `enum_plain`
