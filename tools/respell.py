@@ -2,6 +2,7 @@
 """Respells the repository's own definitions and lemmas as today's Rattle spells names.
 
 usage: python3 tools/respell.py            at the top of the repository, once, right after port.py
+       python3 tools/respell.py --rest     after that: names with a capital inside that stand in a module or behind `as`
        python3 tools/respell.py --list     prints the names with their new spelling, and writes nothing
 
 Definitions, lemmas, fields and constructors of specs/ and proofs/: words in snake case (`tooShort` is `too_short`), a prime is an apostrophe.
@@ -16,6 +17,8 @@ WORDS = "unfoldable|abbrev|pub|data|record|mutual|opaque|ruleset"
 DECLARED = re.compile(rf"^((?:(?:{WORDS}) +)*)([^\s(){{}}\[\];,.:]+)((?: *(?:\([^)]*\)|\{{[^}}]*\}}))*) *:(?!=)")
 LOCAL = re.compile(r"^\s+(?:pub +)?([^\s(){}\[\];,.:λ]+) :(?!=)")
 TOKEN = re.compile(r"[^\s(){}\[\];,.:\"`]+")
+ALIAS = re.compile(r"\bas ([a-z][a-z0-9]*(?:[A-Z][A-Za-z0-9]*)+)\b")
+WITHIN = re.compile(rf"^\s+(?:(?:{WORDS}) +)+([a-z][a-z0-9]*(?:[A-Z][A-Za-z0-9]*)+)(?: *(?:\([^)]*\)|\{{[^}}]*\}}))* *:(?!=)")
 CAMEL = re.compile(r"^[a-z][a-z0-9]*'*[A-Z]|^[a-z][A-Za-z0-9]*[A-Z]")
 # Names that would fall together with another, or with a definition that they speak of.
 OTHERWISE = {
@@ -92,6 +95,17 @@ def renamed():
     return own | inner, out | OTHERWISE
 
 
+def rest():
+    """The names that the first run does not see: declared in a module, or given by `as`."""
+    out = {}
+    for p in files((".antt", ".rt")):
+        for line in open(p, encoding="utf-8"):
+            m = WITHIN.match(line) or ALIAS.search(line)
+            if m:
+                out[m.group(1)] = snake(m.group(1))
+    return out
+
+
 def fall_together(names, out):
     """Names that fall together, and files where a new name already stands for something else."""
     seen, bad = {}, []
@@ -131,6 +145,8 @@ def turn(path, text, out):
 
 def main():
     names, out = renamed()
+    if "--rest" in sys.argv:
+        out = rest()
     if "--list" in sys.argv:
         for n in sorted(out):
             print(f"{n}\t{out[n]}")
