@@ -5,15 +5,12 @@ use Rattle.spec.specs.Check.{Check, pass, refuse}
 use Rattle.spec.specs.Line
 use Rattle.laws.specs.LineWalk.{First}
 use Rattle.line.specs.declared.NextLine.{NextLine}
-use Rattle.line.specs.declared.NextLine.TheVariants as NextLine
 use Rattle.line.specs.declared.Space.{Space}
 use Rattle.line.specs.declared.Space.TheVariants.{At, Nowhere}
 use Rattle.line.specs.declared.Fields.{Fields}
 use Rattle.line.specs.declared.Fields.TheVariants.{Found, Blank, NoSpace, Misplaced}
 use Rattle.line.specs.declared.Id.{Id}
-use Rattle.line.specs.declared.Id.TheVariants as Id
 use Rattle.line.specs.declared.Length.{Length}
-use Rattle.line.specs.declared.Length.TheVariants as Length
 
 -- the first line of what stands behind the first `from` bytes of a text, as places in the text
 abbrev pub line_at : ℕ → Option First → NextLine
