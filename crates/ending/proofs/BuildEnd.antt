@@ -31,7 +31,6 @@ use Rattle.tokens.specs.declared.Build.{Build}
 use Rattle.ending.specs.declared.Missing.{Missing}
 use Rattle.ending.specs.declared.Missing.TheVariants.{Byte}
 use Rattle.ending.specs.declared.Finished.{Finished}
-use Rattle.ending.specs.declared.Finished.TheVariants as Finished
 
 -- ---- a byte that is missing, by its cell of `single`
 

@@ -10,7 +10,6 @@ use Rattle.spec.specs.Load.{Room, nowhere, byte, accepted, refused, finish}
 use Rattle.words.specs.declared.Packed.{Packed as Packing}
 use Rattle.words.specs.declared.Packed.TheVariants.{Words, NoRoom}
 use Rattle.ending.specs.declared.Stop.{Stop}
-use Rattle.ending.specs.declared.Stop.TheVariants as Stop
 use Rattle.ending.specs.declared.Missing.{Missing}
 use Rattle.ending.specs.declared.Missing.TheVariants.{Byte, Nothing}
 use Rattle.ending.specs.declared.Finished.{Finished}
