@@ -1,5 +1,5 @@
 -- The window of an add, and what it hands back: what the contracts of `join`, `take_rest` and `take_piece` cite. Assumes nothing.
-use Rattle.std.specs.Prelude.{◌≡◌, List, ◌++◌, ℕ, ◌+◌, length}
+use Rattle.std.specs.Prelude.{◌≡◌, List, ◌++◌, ℕ, length}
 use Rattle.std.proofs.lemmas.List.Edits.{sets}
 use Rattle.spec.specs.Scan.{Run}
 use Rattle.spec.specs.Stream.{added}
