@@ -38,6 +38,11 @@ module _ {M : Type 1} {𝓤 : Ura M} (𝓛 : Logic 𝓤) where
         fsplit ! $ name_done ! tt $ at_once ! $ use1 𝓛 (‵ (finally R x.ghost_name w)) (res-finally 𝓛 erased κ R x.ghost_name w)
         $ keep ! (2 ∷ 0 ∷ []) $ done !)
 
+    give-ref : (R : RattleType) (κ : Lft) (q : Share) (x : MutBor R.Denot) (vs : List Val) (w : R.Denot)
+        → ent 𝓤 (sem 𝓛 (Ref R κ q (at_last x w) vs)) (H.⇛ (sep 𝓤 (A.lft κ q) (A.res x.ghost_name (R.coded.code w))))
+    give-ref R κ q x vs w = qed 𝓛 (‵ (Ref R κ q (at_last x w) vs) ∷ []) ∵ updating ! $ fsplit ! $ fsplit ! $ feq_l ! (λ p.
+        fsplit ! $ name_done ! tt $ at_once ! $ keep ! (2 ∷ 0 ∷ []) $ done !)
+
     -- what a contract says at exit of a `&mut [T]` and of a `&mut T`: its last value, and its borrow, closed
     abbrev LastMut : (R : RattleType) → Lft → MutBor (List R.Denot) → List R.Denot → Fml
     LastMut R κ x w = fsep (fsep (finally R x.ghost_name w) (feq ℕ (length w) (length x.now)))

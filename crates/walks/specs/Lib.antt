@@ -28,8 +28,8 @@
 --         (cs.0, (tt, (tt, tt))) (lc.0, tt) (said1 𝓛 ..)))))
 -- with p₀ = viewed N.the_row ∷ value usize ∷ [] and
 -- t₀ = ((κs.0, tt), (qs.0, tt), tt, (a.0, (i, tt)), (vss.0, (vint w64 i ∷ [], tt))), and p₁ and t₁ likewise.
---     ps                       the parameters, in order: `lent R` is a `&mut [T]`, `copied R` a `&[T]`, `borrowed R` a `&mut T`, `value R` by
---                              value
+--     ps                       the parameters, in order: `lent R` is a `&mut [T]`, `copied R` a `&[T]`, `borrowed R` a `&mut T`,
+--                              `value R` by value
 --     pl                       for each parameter by value what is known of its type: `uint_plain`, `struct_plain`, `enum_plain`
 --     κs qs a kn               lifetimes and shares of the references, never looked into; the arguments, `a.0` nodes, `a.1.0` i, ..;
 --                              and that they are of their types. `x.now` is the list that a reference shows. vss their machine values
