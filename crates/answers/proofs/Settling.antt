@@ -12,7 +12,7 @@ use lib.Seq.{drop_at}
 use Rattle.spec.specs.Lists.{over}
 use Rattle.spec.specs.Token.{Token}
 use Rattle.spec.specs.Trie.{node_count}
-use Rattle.spec.specs.Memory.{Memory, memory, too_short, singleList, offsetList, blobBytes, rootList, tableList, padded, memory_of, emptied}
+use Rattle.spec.specs.Memory.{Memory, memory, too_short, single_list, offset_list, blob_bytes, root_list, table_list, padded, memory_of, emptied}
 use Rattle.spec.specs.Load.{Room, table_room, Form, nowhere, accepted, refused, finish, load, Start, halts, goes, start_of, counts_of}
 use Rattle.spec.specs.Load.{vocabulary, turned_down, settled, load_on}
 use Rattle.spec.specs.Load as spec
@@ -72,11 +72,11 @@ module _ {s s' : List ℤ} {os os' rs rs' : List ℕ} (K : Kept s os rs s' os' r
   unfolding memory_of
   filled-same ts =
       same_memory
-      (over_kept 256 (singleList ts) s s' (single-length ts) K.single)
-      (over_kept 65537 (offsetList ts) os os' (offset-length ts) K.offsets)
-      (ap (padded (blobBytes ts)) eb)
-      (over_kept 65536 (rootList ts) rs rs' (root-length ts) K.roots)
-      (ap (padded (tableList ts)) et)
+      (over_kept 256 (single_list ts) s s' (single-length ts) K.single)
+      (over_kept 65537 (offset_list ts) os os' (offset-length ts) K.offsets)
+      (ap (padded (blob_bytes ts)) eb)
+      (over_kept 65536 (root_list ts) rs rs' (root-length ts) K.roots)
+      (ap (padded (table_list ts)) et)
 
 kept_trans : {s s' s'' : List ℤ} {os os' os'' rs rs' rs'' : List ℕ} → Kept s os rs s' os' rs' → Kept s' os' rs' s'' os'' rs''
     → Kept s os rs s'' os'' rs''
@@ -107,10 +107,10 @@ module _ (form : Form) (partial : Bool) (r : Room) (text : List ℕ) (s₀ : Lis
     read ∙ F.0,
     same-counts B.tokens B.made B.used F.1,
     same_memory
-        (over_of 256 s (singleList ts) s₀ B.single (single-length ts) K.single)
-        (F.2 ∙ over_kept 65537 (offsetList ts) os₀ os (offset-length ts) K.offsets)
-        (B.blob ∙ ap (padded (blobBytes ts)) eb)
-        (F.3 ∙ over_kept 65536 (rootList ts) rs₀ rs (root-length ts) K.roots)
+        (over_of 256 s (single_list ts) s₀ B.single (single-length ts) K.single)
+        (F.2 ∙ over_kept 65537 (offset_list ts) os₀ os (offset-length ts) K.offsets)
+        (B.blob ∙ ap (padded (blob_bytes ts)) eb)
+        (F.3 ∙ over_kept 65536 (root_list ts) rs₀ rs (root-length ts) K.roots)
         F.4,
   )
   built-finished Finished.NoTokens os' rs' tb' F = read ∙ F
@@ -134,8 +134,8 @@ module _ (form : Form) (partial : Bool) (nodes used bases : ℕ) (text : List �
     (begun : memory s₁ os₁ bl₁ rs₁ tb₁ ≡ emptied (memory s os bl rs tb)) (eb : length bl₁ ≡ length bl) (et : length tb₁ ≡ length tb)
     (s₂ : List ℤ) (os₂ bl₂ rs₂ tb₂ : List ℕ) (K : Kept s₁ os₁ rs₁ s₂ os₂ rs₂)
     (eb₂ : length bl₂ ≡ length bl₁) (et₂ : length tb₂ ≡ length tb₁) where
-  abbrev roomOf : ℕ → ℕ → Room
-  roomOf blob table = record { nodes = nodes; blob = blob; table = table_room table used bases }
+  abbrev room_of : ℕ → ℕ → Room
+  room_of blob table = record { nodes = nodes; blob = blob; table = table_room table used bases }
 
   first-kept : Kept s os rs s₁ os₁ rs₁
   unfolding emptied
@@ -156,12 +156,12 @@ module _ (form : Form) (partial : Bool) (nodes used bases : ℕ) (text : List �
       (emptied-same (kept_trans first-kept K) bl bl₂ tb tb₂ (eb₂ ∙ eb) (et₂ ∙ et))
       ∙ ap (settled (memory s os bl rs tb)) (sym T)
 
-  records-settle : (a : Load) → As (roomOf (length bl₁) (length tb₁)) a
+  records-settle : (a : Load) → As (room_of (length bl₁) (length tb₁)) a
       → (m : Memory) → m ≡ left_by a (memory s₂ os₂ bl₂ rs₂ tb₂)
-      → loaded a m ≡ settled (memory s os bl rs tb) (load form partial (roomOf (length bl) (length tb)) text)
+      → loaded a m ≡ settled (memory s os bl rs tb) (load form partial (room_of (length bl) (length tb)) text)
   records-settle a T m e =
       ap (loaded a) e
-      ∙ settled-as (roomOf (length bl) (length tb)) a (subst (λ (r : Room). As r a) (ap₂ roomOf eb et) T)
+      ∙ settled-as (room_of (length bl) (length tb)) a (subst (λ (r : Room). As r a) (ap₂ room_of eb et) T)
 
 -- The memory s .. is emptied to s₁ .., and the records are taken into it, up to s₂ .. and ns₂.
 module _ {form : Form} {partial : Bool} {nodes : ℕ} (used bases : ℕ) {text : List ℕ} (s : List ℤ) (os bl rs tb : List ℕ) {s₁ : List ℤ}

@@ -4,7 +4,7 @@
 ghost use Rattle.std.specs.Prelude.{◌≡◌, ◌+◌, ◌-◌, ◌<◌, ◌≤◌, length, take, get_or};
 ghost use Rattle.spec.specs.Lists.{each, over};
 ghost use Rattle.spec.specs.Memory.{memory};
-ghost use Rattle.spec.specs.Decode.{lookup as lookupOf, decode_on, decode_text_on};
+ghost use Rattle.spec.specs.Decode.{lookup as lookup_of, decode_on, decode_text_on};
 ghost use Rattle.decoding.specs.Answers.{answer_of, taken_of, Answered};
 ghost use Rattle.decoding.specs.Span.{span_of, span_bytes};
 ghost use Rattle.decoding.specs.Measured.{tokens, Joined, Measured};
@@ -20,7 +20,7 @@ pub enum Span {
 // the blob or longer than 255, nor one that does not stand in the offsets.
 pub fn lookup(offsets: &[u32], blob: &[u8], id: u32) -> Span
     ensures span { result ≡ span_of offsets.now blob.now id }
-    ensures means { span_bytes blob.now result ≡ lookupOf (tokens offsets.now blob.now) id }
+    ensures means { span_bytes blob.now result ≡ lookup_of (tokens offsets.now blob.now) id }
 {
     let i = id as usize;
     if i >= 65536 {
@@ -117,7 +117,7 @@ fn write_tokens(
 )
     requires { Joined (tokens offsets.now blob.now) ids.now count total × (total ≤ length out.old) }
     ensures { out.new ≡ over
-        (each (lookupOf (tokens offsets.now blob.now)) (take count ids.now)) out.old }
+        (each (lookup_of (tokens offsets.now blob.now)) (take count ids.now)) out.old }
 {
     let mut index: usize = 0;
     let mut at: usize = 0;

@@ -14,8 +14,8 @@ use borrow.Author.Tests.{leb-true, leb-false}
 use Rattle.spec.specs.Lists.{over, up_from}
 use Rattle.spec.specs.Token.{Token, seen}
 use Rattle.nodes.specs.Run.{Nodes}
-use Rattle.spec.specs.Layout.{tableWords}
-use Rattle.spec.specs.Memory.{length_before, offsetList}
+use Rattle.spec.specs.Layout.{table_words}
+use Rattle.spec.specs.Memory.{length_before, offset_list}
 use Rattle.spec.specs.Load.{Room, nowhere, byte, Outcome, accepted, refused, missing, demanded, finish}
 use Rattle.laws.specs.Tests.{Tested, either}
 use Rattle.laws.specs.Reads.{offset-length}
@@ -95,8 +95,8 @@ module _ {ts : List Token} {s : List ℤ} {os bl rs : List ℕ} {ns : Nodes} {st
       run-behind (replicate (65536 - st.previous) st.used) os (st.previous + 1) 65537
       (let l = length-replicate (65536 - st.previous) st.used in omega arith)
 
-  pub offsets-all : set_offsets os st.previous 65536 st.used ≡ over (offsetList ts) os
-  unfolding offsetList
+  pub offsets-all : set_offsets os st.previous 65536 st.used ≡ over (offset_list ts) os
+  unfolding offset_list
   offsets-all =
       let O : List ℕ = set_offsets os st.previous 65536 st.used in
       let w = length-sets os (st.previous + 1) (replicate (65536 - st.previous) st.used) in
@@ -108,7 +108,7 @@ module _ {ts : List Token} {s : List ℤ} {os bl rs : List ℕ} {ns : Nodes} {st
 module _ (partial : Bool) (r : Room) where
   -- the tests after the lines, of a vocabulary that has tokens
   abbrev ending : Option ℕ → List Token → Outcome
-  ending o ts = elim o [ some b ↦ refused 20 (byte b) | none ↦ cond (leb (tableWords ts) r.table) (accepted ts) (refused 21 nowhere) ]
+  ending o ts = elim o [ some b ↦ refused 20 (byte b) | none ↦ cond (leb (table_words ts) r.table) (accepted ts) (refused 21 nowhere) ]
 
   finish-none : (ts : List Token) → length ts ≡ 0 → finish partial r ts ≡ refused 19 nowhere
   unfolding finish
@@ -141,14 +141,14 @@ module _ (partial : Bool) (r : Room) where
 
       module _ (e : demanded partial (missing ts 256 0) ≡ none) (most : ℕ) (is : r.table ≡ most)
           (p : Packed) (P : PackedAs ts most rs tb p rs' tb') where
-        last-test : finish partial r ts ≡ cond (leb (tableWords ts) most) (accepted ts) (refused 21 nowhere)
-        last-test = goes none e ∙ ap (λ (n : ℕ). cond (leb (tableWords ts) n) (accepted ts) (refused 21 nowhere)) is
+        last-test : finish partial r ts ≡ cond (leb (table_words ts) most) (accepted ts) (refused 21 nowhere)
+        last-test = goes none e ∙ ap (λ (n : ℕ). cond (leb (table_words ts) n) (accepted ts) (refused 21 nowhere)) is
 
         finished-full : p ≡ NoRoom → As Finished.NoTable
         unfolding answer_for
-        finished-full q = last-test ∙ go (leb (tableWords ts) most) (sym q ∙ P.answer)
+        finished-full q = last-test ∙ go (leb (table_words ts) most) (sym q ∙ P.answer)
           where
-            go : (c : Bool) → NoRoom ≡ cond c (Words (tableWords ts)) NoRoom → cond c (accepted ts) (refused 21 nowhere)
+            go : (c : Bool) → NoRoom ≡ cond c (Words (table_words ts)) NoRoom → cond c (accepted ts) (refused 21 nowhere)
                 ≡ refused 21 nowhere
             go true z = let y : ◌≡◌ {A = ℕ} 0 1 = cc in absurd (omega arith)
             go false z = refl
@@ -157,11 +157,11 @@ module _ (partial : Bool) (r : Room) where
             → os' ≡ set_offsets os st.previous 65536 st.used → As (Finished.Packed n)
         unfolding answer_for
         finished-packs n q long small eo =
-            let (a, b) = go (leb (tableWords ts) most) (sym q ∙ P.answer) in
+            let (a, b) = go (leb (table_words ts) most) (sym q ∙ P.answer) in
             (last-test ∙ a, b, eo ∙ offsets-all B long small, P.roots n q, P.table n q)
           where
-            go : (c : Bool) → Words n ≡ cond c (Words (tableWords ts)) NoRoom → (cond c (accepted ts) (refused 21 nowhere) ≡ accepted ts)
-                × (n ≡ tableWords ts)
+            go : (c : Bool) → Words n ≡ cond c (Words (table_words ts)) NoRoom → (cond c (accepted ts) (refused 21 nowhere) ≡ accepted ts)
+                × (n ≡ table_words ts)
             go true z = (refl, cc)
             go false z = let y : ◌≡◌ {A = ℕ} 0 1 = cc in absurd (omega arith)
 

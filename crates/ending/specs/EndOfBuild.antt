@@ -4,8 +4,8 @@ use Rattle.std.proofs.Math.Option.{Option, none, some}
 use mathlib.Core.List.{List, Memᴰ as Mem}
 use Rattle.spec.specs.Lists.{over}
 use Rattle.spec.specs.Token.{Token}
-use Rattle.spec.specs.Layout.{tableWords}
-use Rattle.spec.specs.Memory.{singleList, offsetList, rootList, tableList, padded}
+use Rattle.spec.specs.Layout.{table_words}
+use Rattle.spec.specs.Memory.{single_list, offset_list, root_list, table_list, padded}
 use Rattle.spec.specs.Load.{Room, nowhere, byte, accepted, refused, finish}
 use Rattle.words.specs.declared.Packed.{Packed as Packing}
 use Rattle.words.specs.declared.Packed.TheVariants.{Words, NoRoom}
@@ -18,7 +18,7 @@ use Rattle.ending.specs.declared.Finished.TheVariants.{Packed, NoTokens, Wanting
 -- the first cells of `single` are those of the tokens, and 0 is no token's id
 pub record SingleOf (ts : List Token) (s : List ℤ) : Type 0 where
   pub low : (u : Token) → Mem u ts → 1 ≤ u.id
-  pub cells : take 256 s ≡ singleList ts
+  pub cells : take 256 s ≡ single_list ts
 
 -- the byte of an answer
 abbrev pub missing_of : Missing → Option ℕ
@@ -29,8 +29,8 @@ missing_of Nothing = none
 -- the place that the table of refusals gives.
 abbrev pub FinishedAs : Bool → Room → List Token → Finished → (os rs tb os' rs' tb' : List ℕ) → Type 0
 FinishedAs partial r ts (Packed n) os rs tb os' rs' tb' =
-    (finish partial r ts ≡ accepted ts) × (n ≡ tableWords ts)
-    × (os' ≡ over (offsetList ts) os) × (rs' ≡ over (rootList ts) rs) × (tb' ≡ padded (tableList ts) (length tb))
+    (finish partial r ts ≡ accepted ts) × (n ≡ table_words ts)
+    × (os' ≡ over (offset_list ts) os) × (rs' ≡ over (root_list ts) rs) × (tb' ≡ padded (table_list ts) (length tb))
 FinishedAs partial r ts NoTokens os rs tb os' rs' tb' = finish partial r ts ≡ refused 19 nowhere
 FinishedAs partial r ts (Wanting b) os rs tb os' rs' tb' = finish partial r ts ≡ refused 20 (byte b)
 FinishedAs partial r ts NoTable os rs tb os' rs' tb' = finish partial r ts ≡ refused 21 nowhere

@@ -13,11 +13,11 @@ use Rattle.std.proofs.Math.Dec.{lit<}
 use Rattle.spec.specs.Lists.{each, fold, has}
 use Rattle.spec.specs.Token.{Token}
 use Rattle.spec.specs.Trie.{extended, cuts, add_new, nodes, node_count, labels, order}
-use Rattle.spec.specs.Layout.{Put, first_from, top, words, first, free, choose, put, place, base_of, pack, slotWord, puts, word_of}
+use Rattle.spec.specs.Layout.{Put, first_from, top, words, first, free, choose, put, place, base_of, pack, slot_word, puts, word_of}
 use Rattle.spec.specs.Layout.{table_at}
-use Rattle.spec.specs.Layout.{rootAt, tableWords}
+use Rattle.spec.specs.Layout.{root_at, table_words}
 use Rattle.spec.specs.Valid.{Rising, Valid}
-use Rattle.spec.specs.Memory.{blobBytes}
+use Rattle.spec.specs.Memory.{blob_bytes}
 use Rattle.spec.specs.Theorems.{Bounds}
 use Rattle.laws.specs.Tokens.{id-bound}
 use Rattle.laws.specs.Nodes.{ByteLabels, labels-small, order-find}
@@ -53,8 +53,8 @@ each_length f n (x ∷ l) h =
     let d : suc (length l) * n ≡ length l * n + n = omega arith in
     omega arith
 
-pub blob_small : (ts : List Token) → Valid ts → length (blobBytes ts) ≤ 65535 * 255
-unfolding blobBytes
+pub blob_small : (ts : List Token) → Valid ts → length (blob_bytes ts) ≤ 65535 * 255
+unfolding blob_bytes
 blob_small ts v =
     let a = each_length (λ (t : Token). t.bytes) 255 ts v.short in
     let b = tokens-few ts v in
@@ -124,13 +124,13 @@ module _ (ts : List Token) (v : Valid ts) where
       let b = fresh-within (order (nodes ts)) (nodes ts) (order-fresh (nodes ts) (nodes-fresh ts)) (λ p m. (order-find (nodes ts) m).0) in
       omega arith
 
-  pub table_words-small : tableWords ts < 2 ^ 32
-  unfolding tableWords words
+  pub table_words-small : table_words ts < 2 ^ 32
+  unfolding table_words words
   table_words-small = let a = puts-top in let b = nodes-few ts v in omega arith
 
   -- a base lies in the table
-  pub base-lt : (p : List ℕ) → base_of (puts ts) p < tableWords ts
-  unfolding tableWords words
+  pub base-lt : (p : List ℕ) → base_of (puts ts) p < table_words ts
+  unfolding table_words words
   base-lt p = go (base_cases (puts ts) p)
     where
       go : Holds (puts ts) p ⊎ Unheld (puts ts) p → base_of (puts ts) p < 256 * (1 + top (puts ts))
@@ -143,8 +143,8 @@ module _ (ts : List Token) (v : Valid ts) where
   unfolding word_of pack
   word_small p l h = let a = base-lt p in let b = table_words-small in let c = id-bound ts v p in omega arith
 
-  pub root-small : (i : ℕ) → rootAt ts i < 2 ^ 64
-  unfolding rootAt
+  pub root-small : (i : ℕ) → root_at ts i < 2 ^ 64
+  unfolding root_at
   root-small i = go (has (nodes ts) (i / 256 ∷ i % 256 ∷ []))
     where
       go : (c : Bool) → cond c (word_of ts (i / 256 ∷ i % 256 ∷ []) zero) zero < 2 ^ 64
@@ -156,7 +156,7 @@ module _ (ts : List Token) (v : Valid ts) where
   table-small i = go (owner (labels (nodes ts)) (word_of ts) (puts ts) i)
     where
       T : ℕ
-      T = slotWord (labels (nodes ts)) (word_of ts) (puts ts) i
+      T = slot_word (labels (nodes ts)) (word_of ts) (puts ts) i
 
       go : (T ≡ 0) ⊎ Owner (labels (nodes ts)) (word_of ts) (puts ts) i → T < 2 ^ 64
       go (inl z) = subst (λ (w : ℕ). w < 2 ^ 64) (sym z) (lit< tt)

@@ -21,9 +21,9 @@ use borrow.Author.Tests.{eqb-true, eqb-false}
 use Rattle.spec.specs.Lists.{up_from, each, fold}
 use Rattle.spec.specs.Token.{Token}
 use Rattle.spec.specs.Trie.{nodes, labels, with_count, falling, order}
-use Rattle.spec.specs.Layout.{Put, words, put, place, base_of, slotWord, puts, word_of, table_at, tableWords}
+use Rattle.spec.specs.Layout.{Put, words, put, place, base_of, slot_word, puts, word_of, table_at, table_words}
 use Rattle.spec.specs.Valid.{Valid}
-use Rattle.spec.specs.Memory.{tableList}
+use Rattle.spec.specs.Memory.{table_list}
 use Rattle.laws.specs.Tests.{Tested, either, each-mem, each-find, mem_pos}
 use Rattle.laws.specs.Nodes.{label-node, labels-small, with-count, order-find}
 use Rattle.laws.specs.Numbered.{Fresh, nodes-fresh, keep_fresh}
@@ -151,24 +151,24 @@ module _ (F : ℕ → ℕ) where
 -- ---- the table's writes: each node, in order, each of its labels
 
 module _ (ts : List Token) where
-  unfoldable pub childWrite : List ℕ → ℕ → Write
+  unfoldable pub child_write : List ℕ → ℕ → Write
   unfolding word_of
-  childWrite p l = record { at = bit_xor (base_of (puts ts) p) l; val = word_of ts (p ++ (l ∷ [])) l }
+  child_write p l = record { at = bit_xor (base_of (puts ts) p) l; val = word_of ts (p ++ (l ∷ [])) l }
 
   unfoldable pub writes : List Write
-  unfolding each childWrite
-  writes = each (λ p. map (childWrite p) (labels (nodes ts) p)) (nodes ts)
+  unfolding each child_write
+  writes = each (λ p. map (child_write p) (labels (nodes ts) p)) (nodes ts)
 
   module _ (v : Valid ts) where
-    write-of : (w : Write) → Mem w writes → (p : List ℕ) × Mem p (nodes ts) × ((l : ℕ) × Mem l (labels (nodes ts) p) × (childWrite p l ≡ w))
+    write-of : (w : Write) → Mem w writes → (p : List ℕ) × Mem p (nodes ts) × ((l : ℕ) × Mem l (labels (nodes ts) p) × (child_write p l ≡ w))
     unfolding writes
     write-of w m =
-        let a = each-find (λ (p : List ℕ). map (childWrite p) (labels (nodes ts) p)) (nodes ts) m in
-        let b = mem-of-map (childWrite a.0) (labels (nodes ts) a.0) a.2 in
+        let a = each-find (λ (p : List ℕ). map (child_write p) (labels (nodes ts) p)) (nodes ts) m in
+        let b = mem-of-map (child_write a.0) (labels (nodes ts) a.0) a.2 in
         (a.0, a.1, (b.0, b.1, b.2))
 
     right : (w : Write) → Mem w writes → w.val ≡ table_at ts w.at
-    unfolding childWrite
+    unfolding child_write
     right w m =
         let r = write-of w m in
         let l = r.2.0 in
@@ -176,8 +176,8 @@ module _ (ts : List Token) where
         subst (λ (z : Write). z.val ≡ table_at ts z.at) r.2.2
         (sym (step-word ts v r.0 r.1 l (labels-small ts v r.0 l k) (label-node (nodes ts) r.0 l k)))
 
-    pub in_table : (w : Write) → Mem w writes → w.at < tableWords ts
-    unfolding childWrite tableWords words
+    pub in_table : (w : Write) → Mem w writes → w.at < table_words ts
+    unfolding child_write table_words words
     in_table w m =
         let r = write-of w m in
         let l = r.2.0 in
@@ -191,11 +191,11 @@ module _ (ts : List Token) where
 
     -- a slot's owner wrote it
     written : (i : ℕ) → Owner (labels (nodes ts)) (word_of ts) (puts ts) i → (w : Write) × Mem w writes × (w.at ≡ i)
-    unfolding writes childWrite
+    unfolding writes child_write
     written i o = (
-      childWrite p o.lab,
-      each-mem (λ (q : List ℕ). map (childWrite q) (labels (nodes ts) q))
-          (in-nodes (put-find (labels (nodes ts)) (order (nodes ts)) [] own-mem)) (mem-map (childWrite p) o.child),
+      child_write p o.lab,
+      each-mem (λ (q : List ℕ). map (child_write q) (labels (nodes ts) q))
+          (in-nodes (put-find (labels (nodes ts)) (order (nodes ts)) [] own-mem)) (mem-map (child_write p) o.child),
       ap (λ (z : ℕ). bit_xor z o.lab) own-base ∙ o.at,
     )
       where
@@ -221,12 +221,12 @@ module _ (ts : List Token) where
                 ∙ ap (λ (x : Put). x.base) (unique (λ (x : Put). x.node) (puts ts) (puts_fresh ts) h.mem o.mem h.node-eq)
             go (inr h) = absurd (h.1 o.own o.mem refl)
 
-    pub table_filled : write_all writes (replicate (tableWords ts) 0) ≡ tableList ts
-    unfolding write_all tableList
+    pub table_filled : write_all writes (replicate (table_words ts) 0) ≡ table_list ts
+    unfolding write_all table_list
     table_filled = ext_get_or 0 _ _ (length-writes writes Z ∙ length-replicate n 0 ∙ sym (up_length (table_at ts) n 0)) cell
       where
         n : ℕ
-        n = tableWords ts
+        n = table_words ts
 
         Z : List ℕ
         Z = replicate n 0
@@ -241,10 +241,10 @@ module _ (ts : List Token) where
             (go (owner (labels (nodes ts)) (word_of ts) (puts ts) i) hi)
             ∙ ap (table_at ts) z ∙ sym (up_at (table_at ts) n 0 i 0 hi)
           where
-            go : (slotWord (labels (nodes ts)) (word_of ts) (puts ts) i ≡ 0) ⊎ Owner (labels (nodes ts)) (word_of ts) (puts ts) i → i < n
+            go : (slot_word (labels (nodes ts)) (word_of ts) (puts ts) i ≡ 0) ⊎ Owner (labels (nodes ts)) (word_of ts) (puts ts) i → i < n
                 → (get_or Z i 0 ≡ table_at ts i) ⊎ ((w : Write) × Mem w writes × (w.at ≡ i))
             go (inl e) hi = inl (get_or-replicate n i 0 0 hi ∙ sym (to-zero e))
               where
-                to-zero : slotWord (labels (nodes ts)) (word_of ts) (puts ts) i ≡ 0 → table_at ts i ≡ 0
+                to-zero : slot_word (labels (nodes ts)) (word_of ts) (puts ts) i ≡ 0 → table_at ts i ≡ 0
                 to-zero q = q
             go (inr o) hi = inr (written i o)

@@ -8,9 +8,9 @@ use borrow.Author.Tests.{ltb-true, ltb-false}
 use Rattle.spec.specs.Lists.{up_from}
 use Rattle.spec.specs.Token.{Token}
 use Rattle.spec.specs.Trie.{nodes, labels}
-use Rattle.spec.specs.Layout.{words, slotWord, puts, word_of, table_at, tableWords}
+use Rattle.spec.specs.Layout.{words, slot_word, puts, word_of, table_at, table_words}
 use Rattle.spec.specs.Valid.{Valid}
-use Rattle.spec.specs.Memory.{tableList}
+use Rattle.spec.specs.Memory.{table_list}
 use Rattle.laws.specs.Tests.{Tested, either}
 use Rattle.laws.specs.Nodes.{labels-small}
 use Rattle.laws.specs.Xor.{xor_block_of}
@@ -31,12 +31,12 @@ up_at f (suc n) i (suc k) d h = let e : suc i + k ≡ i + suc k = omega arith in
 module _ (ts : List Token) where
   module _ (v : Valid ts) where
     -- every slot lies in the table
-    pub past : (i : ℕ) → tableWords ts ≤ i → table_at ts i ≡ 0
-    unfolding tableWords words table_at
+    pub past : (i : ℕ) → table_words ts ≤ i → table_at ts i ≡ 0
+    unfolding table_words words table_at
     past i h = go (owner (labels (nodes ts)) (word_of ts) (puts ts) i)
       where
-        go : (slotWord (labels (nodes ts)) (word_of ts) (puts ts) i ≡ 0) ⊎ Owner (labels (nodes ts)) (word_of ts) (puts ts) i
-            → slotWord (labels (nodes ts)) (word_of ts) (puts ts) i ≡ 0
+        go : (slot_word (labels (nodes ts)) (word_of ts) (puts ts) i ≡ 0) ⊎ Owner (labels (nodes ts)) (word_of ts) (puts ts) i
+            → slot_word (labels (nodes ts)) (word_of ts) (puts ts) i ≡ 0
         go (inl z) = z
         go (inr o) =
             let t = top-le o.mem in
@@ -45,14 +45,14 @@ module _ (ts : List Token) where
             absurd (omega arith)
 
     -- a read with 0 past the end is the function
-    pub table-read : (i : ℕ) → get_or (tableList ts) i 0 ≡ table_at ts i
-    unfolding tableList
-    table-read i = go (either (ltb i (tableWords ts)))
+    pub table-read : (i : ℕ) → get_or (table_list ts) i 0 ≡ table_at ts i
+    unfolding table_list
+    table-read i = go (either (ltb i (table_words ts)))
       where
-        go : Tested (ltb i (tableWords ts)) → get_or (up_from (table_at ts) (tableWords ts) 0) i 0 ≡ table_at ts i
+        go : Tested (ltb i (table_words ts)) → get_or (up_from (table_at ts) (table_words ts) 0) i 0 ≡ table_at ts i
         go (inl e) =
-            let z : 0 + i ≡ i = omega arith in up_at (table_at ts) (tableWords ts) 0 i 0 (ltb-true i (tableWords ts) e) ∙ ap (table_at ts) z
+            let z : 0 + i ≡ i = omega arith in up_at (table_at ts) (table_words ts) 0 i 0 (ltb-true i (table_words ts) e) ∙ ap (table_at ts) z
         go (inr e) =
-            let h = ltb-false i (tableWords ts) e in
-            let k = up_length (table_at ts) (tableWords ts) 0 in
-            get_or-eq_default (up_from (table_at ts) (tableWords ts) 0) 0 (omega arith) ∙ sym (past i h)
+            let h = ltb-false i (table_words ts) e in
+            let k = up_length (table_at ts) (table_words ts) 0 in
+            get_or-eq_default (up_from (table_at ts) (table_words ts) 0) 0 (omega arith) ∙ sym (past i h)

@@ -7,9 +7,9 @@ use Rattle.std.proofs.Math.ListN.{get_or-eq_default, get_or-append}
 use Rattle.std.proofs.lemmas.List.{length-replicate, get_or-replicate}
 use Rattle.spec.specs.Lists.{up_from, over}
 use Rattle.spec.specs.Token.{Token, id_of}
-use Rattle.spec.specs.Layout.{table_at, rootAt, tableWords}
+use Rattle.spec.specs.Layout.{table_at, root_at, table_words}
 use Rattle.spec.specs.Valid.{Valid}
-use Rattle.spec.specs.Memory.{Memory, too_short, id_or_none, length_before, singleList, offsetList, blobBytes, rootList, tableList}
+use Rattle.spec.specs.Memory.{Memory, too_short, id_or_none, length_before, single_list, offset_list, blob_bytes, root_list, table_list}
 use Rattle.spec.specs.Memory.{padded}
 use Rattle.spec.specs.Memory.{memory_of, Loaded}
 use Rattle.laws.specs.Tests.{Tested, either, neither}
@@ -44,22 +44,22 @@ padded-read l n i = go (either (ltb i (length l)))
 
 module _ {m : Memory} {ts : List Token} (L : Loaded m ts) where
   pub single-at : (b : ℕ) → b < 256 → get_or m.single b (pos 0) ≡ id_or_none (id_of ts (b ∷ []))
-  unfolding singleList
+  unfolding single_list
   single-at b h = listed m.single (λ (c : ℕ). id_or_none (id_of ts (c ∷ []))) 256 L.single b (pos 0) h
 
   pub offset_at : (i : ℕ) → i ≤ 65536 → get_or m.offsets i 0 ≡ length_before ts i
-  unfolding offsetList
+  unfolding offset_list
   offset_at i h = listed m.offsets (length_before ts) 65537 L.offsets i 0 (omega arith)
 
-  pub root-at : (i : ℕ) → i < 65536 → get_or m.roots i 0 ≡ rootAt ts i
-  unfolding rootList
-  root-at i h = listed m.roots (rootAt ts) 65536 L.roots i 0 h
+  pub root-at : (i : ℕ) → i < 65536 → get_or m.roots i 0 ≡ root_at ts i
+  unfolding root_list
+  root-at i h = listed m.roots (root_at ts) 65536 L.roots i 0 h
 
   -- the table beyond its words reads 0, as the table's function is there
   pub table-at : (i : ℕ) → get_or m.table i 0 ≡ table_at ts i
   table-at i =
       ap (λ (l : List ℕ). get_or l i 0) L.table
-      ∙ padded-read (tableList ts) (length m.table - length (tableList ts)) i
+      ∙ padded-read (table_list ts) (length m.table - length (table_list ts)) i
       ∙ table-read ts L.valid i
 
 -- ---- the memory after a load
@@ -75,21 +75,21 @@ padded-length content n h =
     length-append content (replicate (n - length content) 0) ∙ (let e = length-replicate {A = ℕ} (n - length content) 0 in omega arith)
 
 module _ (ts : List Token) where
-  pub single-length : length (singleList ts) ≡ 256
-  unfolding singleList
+  pub single-length : length (single_list ts) ≡ 256
+  unfolding single_list
   single-length = up_length (λ (b : ℕ). id_or_none (id_of ts (b ∷ []))) 256 0
 
-  pub offset-length : length (offsetList ts) ≡ 65537
-  unfolding offsetList
+  pub offset-length : length (offset_list ts) ≡ 65537
+  unfolding offset_list
   offset-length = up_length (length_before ts) 65537 0
 
-  pub root-length : length (rootList ts) ≡ 65536
-  unfolding rootList
-  root-length = up_length (rootAt ts) 65536 0
+  pub root-length : length (root_list ts) ≡ 65536
+  unfolding root_list
+  root-length = up_length (root_at ts) 65536 0
 
-  pub table-length : length (tableList ts) ≡ tableWords ts
-  unfolding tableList
-  table-length = up_length (table_at ts) (tableWords ts) 0
+  pub table-length : length (table_list ts) ≡ table_words ts
+  unfolding table_list
+  table-length = up_length (table_at ts) (table_words ts) 0
 
 -- number 1, said by lengths
 pub record LongEnough (m : Memory) : Type 0 where
@@ -108,8 +108,8 @@ long_enough m e =
       roots = ltb-false (length m.roots) 65536 b.1;
     }
 
-module _ (ts : List Token) (m : Memory) (long : too_short m ≡ false) (blob-room : length (blobBytes ts) ≤ length m.blob)
-    (table-room : tableWords ts ≤ length m.table) where
+module _ (ts : List Token) (m : Memory) (long : too_short m ≡ false) (blob-room : length (blob_bytes ts) ≤ length m.blob)
+    (table-room : table_words ts ≤ length m.table) where
   -- a load keeps the lengths of the five parts
   pub record SameLengths : Type 0 where
     pub single : length (memory_of ts m).single ≡ length m.single
@@ -123,11 +123,11 @@ module _ (ts : List Token) (m : Memory) (long : too_short m ≡ false) (blob-roo
   same-lengths =
       let h = long_enough m long in
       record {
-        single = over_length (singleList ts) m.single (let e = single-length ts in omega arith);
-        offsets = over_length (offsetList ts) m.offsets (let e = offset-length ts in omega arith);
-        blob = padded-length (blobBytes ts) (length m.blob) blob-room;
-        roots = over_length (rootList ts) m.roots (let e = root-length ts in omega arith);
-        table = padded-length (tableList ts) (length m.table) (let e = table-length ts in omega arith);
+        single = over_length (single_list ts) m.single (let e = single-length ts in omega arith);
+        offsets = over_length (offset_list ts) m.offsets (let e = offset-length ts in omega arith);
+        blob = padded-length (blob_bytes ts) (length m.blob) blob-room;
+        roots = over_length (root_list ts) m.roots (let e = root-length ts in omega arith);
+        table = padded-length (table_list ts) (length m.table) (let e = table-length ts in omega arith);
       }
 
   -- what an accepted load leaves is loaded memory
@@ -135,11 +135,11 @@ module _ (ts : List Token) (m : Memory) (long : too_short m ≡ false) (blob-roo
   unfolding memory_of
   loaded v = record {
     valid = v;
-    single = over_take (singleList ts) m.single 256 (single-length ts);
-    offsets = over_take (offsetList ts) m.offsets 65537 (offset-length ts);
-    blob = ap (padded (blobBytes ts)) (sym same-lengths.blob);
-    roots = over_take (rootList ts) m.roots 65536 (root-length ts);
-    table = ap (padded (tableList ts)) (sym same-lengths.table);
+    single = over_take (single_list ts) m.single 256 (single-length ts);
+    offsets = over_take (offset_list ts) m.offsets 65537 (offset-length ts);
+    blob = ap (padded (blob_bytes ts)) (sym same-lengths.blob);
+    roots = over_take (root_list ts) m.roots 65536 (root-length ts);
+    table = ap (padded (table_list ts)) (sym same-lengths.table);
     blob-room = (let e = same-lengths.blob in omega arith);
     table-room = (let e = same-lengths.table in omega arith);
   }

@@ -13,7 +13,7 @@ use borrow.Author.Tests.{eqb-true, eqb-false, eq-eqb, ltb-true, ne_eqb, ltb-fals
 use Rattle.spec.specs.Lists.{each}
 use Rattle.spec.specs.Token.{Token, bytes_of, present}
 use Rattle.spec.specs.Valid.{Rising, Valid}
-use Rattle.spec.specs.Memory.{Memory, length_before, blobBytes, Loaded}
+use Rattle.spec.specs.Memory.{Memory, length_before, blob_bytes, Loaded}
 use Rattle.spec.specs.Decode.{lookup}
 use Rattle.spec.specs.Theorems.{Looking}
 use Rattle.running.specs.Joined.{bytes_of_token, rising_above}
@@ -48,15 +48,15 @@ before-first (t ∷ ts) low i r h =
 -- where an id's bytes stand in the blob, and how long they are
 pub record Span (ts : List Token) (r : List ℕ) (i : ℕ) : Type 0 where
   pub rest : List ℕ
-  pub from : drop (length_before ts i) (blobBytes ts ++ r) ≡ bytes_of ts i ++ rest
+  pub from : drop (length_before ts i) (blob_bytes ts ++ r) ≡ bytes_of ts i ++ rest
   pub next : length_before ts (suc i) ≡ length_before ts i + length (bytes_of ts i)
 
 pub spanned : (ts : List Token) (low : ℕ) → Rising low ts → (r : List ℕ) (i : ℕ) → Span ts r i
-spanned [] low rise r i = unfold length_before bytes_of blobBytes in record { rest = r; from = refl; next = refl }
+spanned [] low rise r i = unfold length_before bytes_of blob_bytes in record { rest = r; from = refl; next = refl }
 spanned (t ∷ ts) low rise r i = go (either (ltb t.id i)) (either (eqb t.id i)) (spanned ts t.id rise.1 r i)
   where
-    blob : blobBytes (t ∷ ts) ++ r ≡ t.bytes ++ (blobBytes ts ++ r)
-    blob = unfold blobBytes each in append_assoc t.bytes (blobBytes ts) r
+    blob : blob_bytes (t ∷ ts) ++ r ≡ t.bytes ++ (blob_bytes ts ++ r)
+    blob = unfold blob_bytes each in append_assoc t.bytes (blob_bytes ts) r
 
     go : Tested (ltb t.id i) → Tested (eqb t.id i) → Span ts r i → Span (t ∷ ts) r i
     go (inl e) q s =
@@ -66,7 +66,7 @@ spanned (t ∷ ts) low rise r i = go (either (ltb t.id i)) (either (eqb t.id i))
           rest = s.rest;
           from =
               ap₂ (λ (n : ℕ) (l : List ℕ). drop n l) (before-below ts i t h) blob
-              ∙ drop-append-add t.bytes (blobBytes ts ++ r) (length_before ts i) ∙ s.from ∙ ap (λ (z : List ℕ). z ++ s.rest) (sym b);
+              ∙ drop-append-add t.bytes (blob_bytes ts ++ r) (length_before ts i) ∙ s.from ∙ ap (λ (z : List ℕ). z ++ s.rest) (sym b);
           next =
               let x = before-below ts i t h in
               let y = before-below ts (suc i) t (omega arith) in
@@ -80,8 +80,8 @@ spanned (t ∷ ts) low rise r i = go (either (ltb t.id i)) (either (eqb t.id i))
         let x : length_before (t ∷ ts) i ≡ 0 = before_above ts i t (omega arith) ∙ before-first ts t.id i rise.1 (omega arith) in
         let y = before-first ts t.id (suc i) rise.1 (omega arith) in
         record {
-          rest = blobBytes ts ++ r;
-          from = ap₂ (λ (n : ℕ) (l : List ℕ). drop n l) x blob ∙ ap (λ (k : List ℕ). k ++ (blobBytes ts ++ r)) (sym b);
+          rest = blob_bytes ts ++ r;
+          from = ap₂ (λ (n : ℕ) (l : List ℕ). drop n l) x blob ∙ ap (λ (k : List ℕ). k ++ (blob_bytes ts ++ r)) (sym b);
           next = let w = before-below ts (suc i) t (omega arith) in let u = ap length b in omega arith;
         }
     go (inr e) (inr q) s =
@@ -93,8 +93,8 @@ spanned (t ∷ ts) low rise r i = go (either (ltb t.id i)) (either (eqb t.id i))
         let y : length_before (t ∷ ts) (suc i) ≡ 0 =
         before_above ts (suc i) t (omega arith) ∙ before-first ts t.id (suc i) rise.1 (omega arith) in
         record {
-          rest = blobBytes (t ∷ ts) ++ r;
-          from = ap (λ (n : ℕ). drop n (blobBytes (t ∷ ts) ++ r)) x ∙ ap (λ (k : List ℕ). k ++ (blobBytes (t ∷ ts) ++ r)) (sym b);
+          rest = blob_bytes (t ∷ ts) ++ r;
+          from = ap (λ (n : ℕ). drop n (blob_bytes (t ∷ ts) ++ r)) x ∙ ap (λ (k : List ℕ). k ++ (blob_bytes (t ∷ ts) ++ r)) (sym b);
           next = let u = ap length b in omega arith;
         }
       where
@@ -106,25 +106,25 @@ spanned (t ∷ ts) low rise r i = go (either (ltb t.id i)) (either (eqb t.id i))
             at (inr k) = let z = rising_above t.id ts rise.1 u k in omega arith
 
 -- "the last is the total"
-pub before-all : (ts : List Token) (i : ℕ) → ((t : Token) → Mem t ts → t.id < i) → length_before ts i ≡ length (blobBytes ts)
-before-all [] i h = unfold length_before blobBytes in refl
+pub before-all : (ts : List Token) (i : ℕ) → ((t : Token) → Mem t ts → t.id < i) → length_before ts i ≡ length (blob_bytes ts)
+before-all [] i h = unfold length_before blob_bytes in refl
 before-all (t ∷ ts) i h =
     let a = before-below ts i t (h t (here refl)) in
     let b = before-all ts i (λ u m. h u (there m)) in
-    let c : length (blobBytes (t ∷ ts)) ≡ length t.bytes + length (blobBytes ts) = unfold blobBytes each in
-    length-append t.bytes (blobBytes ts) in
+    let c : length (blob_bytes (t ∷ ts)) ≡ length t.bytes + length (blob_bytes ts) = unfold blob_bytes each in
+    length-append t.bytes (blob_bytes ts) in
     omega arith
 
-pub before-le : (ts : List Token) (i : ℕ) → length_before ts i ≤ length (blobBytes ts)
-before-le [] i = unfold length_before blobBytes in omega arith
-before-le (t ∷ ts) i = go (either (ltb t.id i)) (before-le ts i) (unfold blobBytes each in length-append t.bytes (blobBytes ts))
+pub before-le : (ts : List Token) (i : ℕ) → length_before ts i ≤ length (blob_bytes ts)
+before-le [] i = unfold length_before blob_bytes in omega arith
+before-le (t ∷ ts) i = go (either (ltb t.id i)) (before-le ts i) (unfold blob_bytes each in length-append t.bytes (blob_bytes ts))
   where
-    go : Tested (ltb t.id i) → length_before ts i ≤ length (blobBytes ts)
-        → length (blobBytes (t ∷ ts)) ≡ length t.bytes + length (blobBytes ts) → length_before (t ∷ ts) i ≤ length (blobBytes (t ∷ ts))
+    go : Tested (ltb t.id i) → length_before ts i ≤ length (blob_bytes ts)
+        → length (blob_bytes (t ∷ ts)) ≡ length t.bytes + length (blob_bytes ts) → length_before (t ∷ ts) i ≤ length (blob_bytes (t ∷ ts))
     go (inl e) h l = let a = before-below ts i t (ltb-true t.id i e) in omega arith
     go (inr e) h l = let a = before_above ts i t (ltb-false t.id i e) in omega arith
 
-pub offset_total : {m : Memory} {ts : List Token} → Loaded m ts → get_or m.offsets 65536 0 ≡ length (blobBytes ts)
+pub offset_total : {m : Memory} {ts : List Token} → Loaded m ts → get_or m.offsets 65536 0 ≡ length (blob_bytes ts)
 offset_total {ts} L = offset_at L 65536 (lit< tt) ∙ before-all ts 65536 L.valid.id-fits
 
 -- ---- the bytes of an id
@@ -182,7 +182,7 @@ looking m ts L i = go (either (ltb i 65536))
         rw e (sym (absent_bytes ts i (λ t k q. let x = v.id-fits t k in omega arith)))
     go (inl e) =
         let h = ltb-true i 65536 e in
-        let s = spanned ts 0 v.rising (replicate (length m.blob - length (blobBytes ts)) 0) i in
+        let s = spanned ts 0 v.rising (replicate (length m.blob - length (blob_bytes ts)) 0) i in
         let a : A ≡ length_before ts i = offset_at L i (omega arith) in
         let b : E ≡ length_before ts (suc i) = offset_at L (i + 1) (omega arith) ∙ ap (length_before ts) (add-one i) in
         let n = s.next in

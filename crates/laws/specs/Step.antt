@@ -16,7 +16,7 @@ use Rattle.std.proofs.Math.ListN.{length}
 use Rattle.spec.specs.Lists.{fold, same, has}
 use Rattle.spec.specs.Token.{Token, id_of}
 use Rattle.spec.specs.Trie.{nodes, labels, order}
-use Rattle.spec.specs.Layout.{Put, choose, put, place, base_of, pack, slotWord, puts, word_of, table_at}
+use Rattle.spec.specs.Layout.{Put, choose, put, place, base_of, pack, slot_word, puts, word_of, table_at}
 use Rattle.spec.specs.Valid.{Valid}
 use Rattle.spec.specs.Match.{base_in, id_in, goes}
 use Rattle.laws.specs.Tests.{clash, Tested, either, same-eq, same_refl, has-mem, mem_has, mem_pos}
@@ -180,7 +180,7 @@ module _ (ts : List Token) (v : Valid ts) where
     step-word k =
         let l : Mem b (labels (nodes ts) p) = node_label (nodes ts) p b k in
         let h = placed p m (mem_pos l) in
-        let T : ℕ → ℕ = slotWord (labels (nodes ts)) (word_of ts) (puts ts) in
+        let T : ℕ → ℕ = slot_word (labels (nodes ts)) (word_of ts) (puts ts) in
         ap (λ (z : ℕ). T (bit_xor z b)) h.base-eq
         ∙ hit (labels (nodes ts)) (word_of ts) b good h.mem (subst (λ (z : List ℕ). Mem b (labels (nodes ts) z)) (sym h.node-eq) l)
         ∙ ap (λ (z : List ℕ). word_of ts (z ++ (b ∷ [])) b) h.node-eq
@@ -193,7 +193,7 @@ module _ (ts : List Token) (v : Valid ts) where
         L = labels (nodes ts)
 
         T : ℕ → ℕ
-        T = slotWord L (word_of ts) (puts ts)
+        T = slot_word L (word_of ts) (puts ts)
 
         held : (h : Holds (puts ts) p) → (T (bit_xor h.put.base b) ≡ 0) ⊎ Owner L (word_of ts) (puts ts) (bit_xor h.put.base b)
             → (T (bit_xor h.put.base b) ≡ 0) ⊎ (T (bit_xor h.put.base b) % 256 ≡ b → ⊥)

@@ -13,7 +13,7 @@ use Rattle.std.proofs.Math.Dec.{eqb}
 use Rattle.spec.specs.Lists.{has, Bytes}
 use Rattle.spec.specs.Token.{Token, id_of}
 use Rattle.spec.specs.Trie.{nodes}
-use Rattle.spec.specs.Layout.{base_of, puts, word_of, table_at, rootAt}
+use Rattle.spec.specs.Layout.{base_of, puts, word_of, table_at, root_at}
 use Rattle.spec.specs.Valid.{Valid}
 use Rattle.spec.specs.Memory.{Memory, Loaded}
 use Rattle.spec.specs.Match.{base_in, id_in, goes, Walk, no_walk, onto, follow, enter, walk_on}
@@ -232,8 +232,8 @@ module _ {ts : List Token} (v : Valid ts) where
         }
         go false e = follow-reaches s q (onto no_walk w 2) small m begun
 
-  pub root-word : (a b : ℕ) → b < 256 → rootAt ts (a * 256 + b) ≡ cond (has (nodes ts) (a ∷ b ∷ [])) (word_of ts (a ∷ b ∷ []) 0) 0
-  unfolding rootAt
+  pub root-word : (a b : ℕ) → b < 256 → root_at ts (a * 256 + b) ≡ cond (has (nodes ts) (a ∷ b ∷ [])) (word_of ts (a ∷ b ∷ []) 0) 0
+  unfolding root_at
   root-word a b h = ap₂ (λ (x y : ℕ). cond (has (nodes ts) (x ∷ y ∷ [])) (word_of ts (x ∷ y ∷ []) zero) zero) (omega arith) (omega arith)
 
 bytes_take : (n : ℕ) (s : List ℕ) → Bytes s → Bytes (take n s)

@@ -10,9 +10,9 @@ use Rattle.spec.specs.Check.{Check, pass, refuse}
 use Rattle.spec.specs.Line.{Fields}
 use Rattle.spec.specs.Token.{Token, seen}
 use Rattle.spec.specs.Trie.{node_count}
-use Rattle.spec.specs.Layout.{tableWords}
+use Rattle.spec.specs.Layout.{table_words}
 use Rattle.spec.specs.Valid.{Rising, Distinct, Valid}
-use Rattle.spec.specs.Memory.{blobBytes}
+use Rattle.spec.specs.Memory.{blob_bytes}
 use Rattle.spec.specs.Load.{Room, id_rule, length_rule, read_token, read_fields, read_line, Form, vocabulary, records_in, reading, admit}
 use Rattle.spec.specs.Load.{last_id, take_one, Place, nowhere, line, byte, Outcome, accepted, refused, missing, demanded, finish}
 use Rattle.spec.specs.Load.{take_all}
@@ -79,7 +79,7 @@ pub record Admits (room : Room) (ts : List Token) (t : Token) (more : List Token
   pub more-is : more ≡ ts ++ (t ∷ [])
   pub new : seen ts t.bytes ≡ false
   pub nodes : node_count more ≤ room.nodes
-  pub blob : length (blobBytes more) ≤ room.blob
+  pub blob : length (blob_bytes more) ≤ room.blob
 
 pub admit-passes : (room : Room) (ts : List Token) (t : Token) (more : List Token) → admit room ts t ≡ pass more → Admits room ts t more
 unfolding admit
@@ -92,7 +92,7 @@ admit-passes room ts t more e =
       more-is = sym z;
       new = not-true _ p;
       nodes = subst (λ (l : List Token). node_count l ≤ room.nodes) z (leb-true _ _ q);
-      blob = subst (λ (l : List Token). length (blobBytes l) ≤ room.blob) z (leb-true _ _ r);
+      blob = subst (λ (l : List Token). length (blob_bytes l) ≤ room.blob) z (leb-true _ _ r);
     }
 
 last_above : (low : ℕ) (t : Token) (ts : List Token) → Rising low (t ∷ ts) → low < last_id (t ∷ ts)
@@ -166,7 +166,7 @@ accepted≢refused ts n p e = let z : ◌≡◌ {A = ℕ} 0 1 = cc in omega arit
 -- what an accepted end says of its tokens
 pub record Finishes (partial : Bool) (room : Room) (ts : List Token) : Type 0 where
   pub whole : demanded partial (missing ts 256 0) ≡ none
-  pub table : tableWords ts ≤ room.table
+  pub table : table_words ts ≤ room.table
 
 pub finish-accepts : (partial : Bool) (room : Room) (ts us : List Token) → finish partial room ts ≡ accepted us → (ts ≡ us)
     × Finishes partial room ts
@@ -174,28 +174,28 @@ unfolding finish
 finish-accepts partial room [] us e = absurd (accepted≢refused us 19 nowhere e)
 finish-accepts partial room (t ∷ ts) us e = go (demanded partial (missing (t ∷ ts) 256 0)) refl e
   where
-    room_for : (c : Bool) → leb (tableWords (t ∷ ts)) room.table ≡ c → cond c (accepted (t ∷ ts)) (refused 21 nowhere) ≡ accepted us
-        → (t ∷ ts ≡ us) × (tableWords (t ∷ ts) ≤ room.table)
+    room_for : (c : Bool) → leb (table_words (t ∷ ts)) room.table ≡ c → cond c (accepted (t ∷ ts)) (refused 21 nowhere) ≡ accepted us
+        → (t ∷ ts ≡ us) × (table_words (t ∷ ts) ≤ room.table)
     room_for true q k = (cc, leb-true _ _ q)
     room_for false q k = absurd (accepted≢refused us 21 nowhere k)
 
     go : (o : Option ℕ) → demanded partial (missing (t ∷ ts) 256 0) ≡ o
         → elim o [
           | some b ↦ refused 20 (byte b)
-          | none ↦ cond (leb (tableWords (t ∷ ts)) room.table) (accepted (t ∷ ts))
+          | none ↦ cond (leb (table_words (t ∷ ts)) room.table) (accepted (t ∷ ts))
               (refused 21 nowhere)
         ] ≡ accepted us
         → (t ∷ ts ≡ us) × Finishes partial room (t ∷ ts)
     go (some b) o k = absurd (accepted≢refused us 20 (byte b) k)
-    go none o k = let (z, w) = room_for (leb (tableWords (t ∷ ts)) room.table) refl k in (z, record { whole = o; table = w })
+    go none o k = let (z, w) = room_for (leb (table_words (t ∷ ts)) room.table) refl k in (z, record { whole = o; table = w })
 
 -- what holds of the tokens read so far
 pub record Held (room : Room) (ts : List Token) : Type 0 where
   pub valid : Valid ts
-  pub blob : length (blobBytes ts) ≤ room.blob
+  pub blob : length (blob_bytes ts) ≤ room.blob
 
 pub none-held : (room : Room) → Held room []
-unfolding blobBytes each
+unfolding blob_bytes each
 none-held room = record { valid = empty-valid; blob = omega arith }
 
 pub record_held : (form : Form) (room : Room) (ts : List Token) (l : List ℕ) (more : List Token) → Held room ts → Bytes l
@@ -261,7 +261,7 @@ finish-modes room [] = inl refl
 finish-modes room (t ∷ ts) = go (missing (t ∷ ts) 256 0)
   where
     end : Outcome
-    end = cond (leb (tableWords (t ∷ ts)) room.table) (accepted (t ∷ ts)) (refused 21 nowhere)
+    end = cond (leb (table_words (t ∷ ts)) room.table) (accepted (t ∷ ts)) (refused 21 nowhere)
 
     go : (o : Option ℕ) → (elim o [ some b ↦ refused 20 (byte b) | none ↦ end ] ≡ end) ⊎
         ((b : ℕ) × (elim o [ some b ↦ refused 20 (byte b) | none ↦ end ] ≡ refused 20 (byte b)))

@@ -12,7 +12,7 @@ use Rattle.spec.specs.Digits.{hex_run, octal_run}
 use Rattle.spec.specs.Line.{lf, cr, less_cr, with_lf, last_line, lines_after, lines, Fields, first_space, last_space, parted, placed}
 use Rattle.spec.specs.Line.{fields}
 use Rattle.spec.specs.Literal.{Piece, Escapes, letters, look_up, escaped, byte_escape, point_escape, escape, more_letters, octal_escape}
-use Rattle.spec.specs.Literal.{escape2, escapes_of, plain, bad, piece, closed, piece_at, inside, quoted, readWith, read, literal}
+use Rattle.spec.specs.Literal.{escape2, escapes_of, plain, bad, piece, closed, piece_at, inside, quoted, read_with, read, literal}
 use Rattle.spec.specs.Load.{Form, vocabulary, records_in}
 use Rattle.laws.specs.Tests.{and_l, and_r}
 use Rattle.laws.specs.LiteralLaws.{hex_run_lt}
@@ -244,8 +244,8 @@ module _ (escapes : Escapes) (to-bytes : ToBytes escapes) where
       go true = inside-bytes in_b (get_or s 0 0) (take (length s - 2) (drop 1 s)) 0 (bytes_take (length s - 2) (drop 1 s) (bytes_drop 1 s h))
       go false = tt
 
-  read-bytes : (s : List ℕ) → Bytes s → Bytes (readWith escapes s).bytes
-  unfolding readWith
+  read-bytes : (s : List ℕ) → Bytes s → Bytes (read_with escapes s).bytes
+  unfolding read_with
   read-bytes [] h = tt
   read-bytes (b ∷ s) h = go (eqb b 0x62)
     where
@@ -256,10 +256,10 @@ module _ (escapes : Escapes) (to-bytes : ToBytes escapes) where
 -- what a literal stands for is a byte string
 pub literal-bytes : (edition : ℕ) (s bs : List ℕ) → literal edition s ≡ some bs → Bytes s → Bytes bs
 unfolding literal read
-literal-bytes edition s bs e h = go (readWith (escapes_of edition) s).good e
+literal-bytes edition s bs e h = go (read_with (escapes_of edition) s).good e
   where
-    go : (t : Bool) → cond t (some (readWith (escapes_of edition) s).bytes) none ≡ some bs → Bytes bs
+    go : (t : Bool) → cond t (some (read_with (escapes_of edition) s).bytes) none ≡ some bs → Bytes bs
     go true e =
-        let z : (readWith (escapes_of edition) s).bytes ≡ bs = cc in
+        let z : (read_with (escapes_of edition) s).bytes ≡ bs = cc in
         subst Bytes z (read-bytes (escapes_of edition) (of_edition edition) s h)
     go false e = absurd (none≢some bs e)

@@ -8,7 +8,7 @@ use Rattle.spec.specs.Check.{Check, pass, refuse, given, need}
 use Rattle.spec.specs.Utf8.{well_formed, first_bad, blank}
 use Rattle.spec.specs.Line.{Fields, first_space, last_space, parted, placed, fields}
 use Rattle.spec.specs.Token.{Token}
-use Rattle.spec.specs.Layout.{tableWords}
+use Rattle.spec.specs.Layout.{table_words}
 use Rattle.spec.specs.Memory.{Memory, too_short, memory_of, Loaded}
 use Rattle.spec.specs.Load.{Room, id_rule, length_rule, read_token, read_fields, read_line, Form, vocabulary, records_in, reading, admit}
 use Rattle.spec.specs.Load.{last_id, take_one, Place, nowhere, line, byte, offset, Outcome, accepted, refused, missing, demanded, finish}
@@ -72,11 +72,11 @@ finish-refused partial room (t ∷ ts) n p e = go (demanded partial (missing (t 
     go : (o : Option ℕ)
         → elim o [
           | some b ↦ refused 20 (byte b)
-          | none ↦ cond (leb (tableWords (t ∷ ts)) room.table) (accepted (t ∷ ts)) (refused 21 nowhere)
+          | none ↦ cond (leb (table_words (t ∷ ts)) room.table) (accepted (t ∷ ts)) (refused 21 nowhere)
         ] ≡ refused n p
         → 3 ≤ n
     go (some b) e = let z : 20 ≡ n = cc in omega arith
-    go none e = at (leb (tableWords (t ∷ ts)) room.table) e
+    go none e = at (leb (table_words (t ∷ ts)) room.table) e
 
 records_refused : (form : Form) (partial : Bool) (room : Room) (k : ℕ) (ts : List Token) (rs : List (List ℕ)) (n : ℕ) (p : Place)
     → take_all form partial room k ts rs ≡ refused n p → 3 ≤ n
@@ -239,7 +239,7 @@ loads_loaded form partial nodes table m s h room e =
     let ts = P.tokens in
     let (long, bytes) = start-goes form partial m s P.mode P.body P.starts in
     let (held, done) = load-accepts form P.mode _ P.body (bytes h) ts P.accepts in
-    let t : tableWords ts ≤ length m.table = let d = done.table in omega arith in
+    let t : table_words ts ≤ length m.table = let d = done.table in omega arith in
     let q = loads_accepted form partial nodes table m s P.mode P.body P.starts ts P.accepts in (
       P.mode,
       P.body,

@@ -3,7 +3,7 @@ ghost use Rattle.std.specs.Prelude.{◌≡◌, ◌+◌, ◌-◌, ◌≤◌, ◌<
 ghost use Rattle.spec.specs.Lists.{fold};
 ghost use Rattle.laws.specs.Fill.{write};
 ghost use Rattle.nodes.specs.Run.{room, see};
-ghost use Rattle.words.specs.NodeWords.{childWrites, nodeWrites, rootWord, root_words};
+ghost use Rattle.words.specs.NodeWords.{child_writes, node_writes, root_word, root_words};
 
 use cells::one_less;
 use nodes::Node;
@@ -12,7 +12,7 @@ use nodes::Node;
 pub fn put_children(table: &mut [u64], nodes: &[Node], made: u32, base: usize, head: u32)
     requires { made ≤ room nodes.now }
     ensures { table.new
-        ≡ fold write table.old (childWrites (see nodes.now) made base 256 head) }
+        ≡ fold write table.old (child_writes (see nodes.now) made base 256 head) }
 {
     let mut c = head;
     let mut fuel: u32 = 256;
@@ -42,7 +42,7 @@ pub fn after(i: u32, n: u32) -> u32
 pub fn put_words(table: &mut [u64], nodes: &[Node], made: u32)
     requires { (1 ≤ made) × (made ≤ room nodes.now) }
     ensures { table.new
-        ≡ fold write table.old (nodeWrites (see nodes.now) made (made - 1) 1) }
+        ≡ fold write table.old (node_writes (see nodes.now) made (made - 1) 1) }
 {
     let mut i: u32 = 1;
     while i < made {
@@ -63,7 +63,7 @@ pub fn next_root(i: usize) -> usize
 pub fn put_roots(roots: &mut [u64], nodes: &[Node], made: u32)
     requires { (1 ≤ made) × (65536 ≤ length roots.old) × (made ≤ room nodes.now) }
     ensures { roots.new
-        ≡ root_words (rootWord (see nodes.now) made) roots.old }
+        ≡ root_words (root_word (see nodes.now) made) roots.old }
 {
     let mut i: usize = 0;
     while i < 65536 {

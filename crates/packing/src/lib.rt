@@ -4,7 +4,7 @@
 
 ghost use Rattle.std.specs.Prelude.{◌≡◌, List, ℕ, ◌+◌, ◌-◌, ◌*◌, ◌^◌, ◌<◌, ◌≤◌, length};
 ghost use Rattle.spec.specs.Token.{Token, id_of};
-ghost use Rattle.spec.specs.Trie.{nodes as nodesOf, node_count};
+ghost use Rattle.spec.specs.Trie.{nodes as nodes_of, node_count};
 ghost use Rattle.spec.specs.Layout.{puts};
 ghost use Rattle.spec.specs.Load.{table_room};
 ghost use Rattle.spec.specs.Valid.{Valid};
@@ -111,7 +111,7 @@ fn place_all(
 ) -> Front
     requires { (1 ≤ made) × (made ≤ room nodes.old) × Bounds used.old bases.old 4 end }
     ensures stands { (ts : List Token) (rs : List ℕ) → Valid ts → Stands ts rs nodes.old → made ≡ node_count ts
-        → Ended (nodesOf ts) (id_of ts) (puts ts) nodes.new result end }
+        → Ended (nodes_of ts) (id_of ts) (puts ts) nodes.new result end }
     ensures within { Within result end }
 {
     cells::clear_u64(used);

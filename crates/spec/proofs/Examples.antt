@@ -19,9 +19,9 @@ use Rattle.spec.specs.Line.{lines, fields}
 use Rattle.spec.specs.Literal.{escape, escape2, escapes_of, literal}
 use Rattle.spec.specs.Token.{Token, seen}
 use Rattle.spec.specs.Trie.{node_count}
-use Rattle.spec.specs.Layout.{tableWords}
+use Rattle.spec.specs.Layout.{table_words}
 use Rattle.spec.specs.Scan.{done, failed, scan_at, scan, waiting, run_at, run}
-use Rattle.spec.specs.Memory.{Memory, too_short, padded, memory_of, singleList, offsetList, blobBytes, rootList, tableList}
+use Rattle.spec.specs.Memory.{Memory, too_short, padded, memory_of, single_list, offset_list, blob_bytes, root_list, table_list}
 use Rattle.spec.specs.Encode.{encoding, encode_answer, encode_on}
 use Rattle.spec.specs.Decode.{decoding, decode_output, decode_on}
 use Rattle.spec.specs.Load.{table_room, id_rule, length_rule, read_token, read_fields, read_line, vocabulary, records_in, reading, admit}
@@ -48,11 +48,11 @@ vv =
 -- V states these, with room for 5 nodes, 10 bytes and 512 words, and not one more
 v_states : load (vocabulary 1) true (record { nodes = 5; blob = 10; table = 512 }) v_text ≡ accepted vv
 unfolding load take_all take_one records_in reading read_line read_fields id_rule read_token length_rule admit last_id finish missing and_then
-    given need lines fields digits literal seen node_count blobBytes tableWords
+    given need lines fields digits literal seen node_count blob_bytes table_words
 v_states = refl
 
 v_counts : counts_of vv ≡ record { tokens = 5; nodes = 5; blob = 10; table = 512 }
-unfolding counts_of node_count blobBytes tableWords
+unfolding counts_of node_count blob_bytes table_words
 v_counts = refl
 
 v_text_is_utf8 : first_bad v_text ≡ none
@@ -66,7 +66,7 @@ v_room = refl
 
 -- what the load leaves, as its five parts
 abbrev v_memory : Memory
-v_memory = record { single = singleList vv; offsets = offsetList vv; blob = blobBytes vv; roots = rootList vv; table = tableList vv }
+v_memory = record { single = single_list vv; offsets = offset_list vv; blob = blob_bytes vv; roots = root_list vv; table = table_list vv }
 
 over_all : {A : Type 0} (l m : List A) → length m ≡ length l → over l m ≡ l
 over_all l m e = ap (λ (r : List _). l ++ r) (drop_of_length-le m {i = length l} (omega (arith, e))) ∙ append-nil l
@@ -82,14 +82,14 @@ module _ (m : Memory) (single : length m.single ≡ 256) (offsets : length m.off
   long = rw (single, offsets, roots)
 
   left : memory_of vv m ≡ v_memory
-  unfolding memory_of singleList offsetList blobBytes rootList tableList
+  unfolding memory_of single_list offset_list blob_bytes root_list table_list
   left =
       cc (
-        over_all (singleList vv) m.single single,
-        over_all (offsetList vv) m.offsets offsets,
-        padded-full (blobBytes vv) (length m.blob) blob,
-        over_all (rootList vv) m.roots roots,
-        padded-full (tableList vv) (length m.table) table,
+        over_all (single_list vv) m.single single,
+        over_all (offset_list vv) m.offsets offsets,
+        padded-full (blob_bytes vv) (length m.blob) blob,
+        over_all (root_list vv) m.roots roots,
+        padded-full (table_list vv) (length m.table) table,
       )
 
   -- V loads: 5 tokens, 5 nodes, 10 blob bytes, 512 words
@@ -106,7 +106,7 @@ module _ (m : Memory) (single : length m.single ≡ 256) (offsets : length m.off
 
 -- Number 1 on this memory, once for all rows: what an entry makes of memory that is long enough.
 v_long : too_short v_memory ≡ false
-unfolding too_short singleList offsetList rootList
+unfolding too_short single_list offset_list root_list
 v_long = refl
 
 encode_v : (n : ℕ) (s : List ℕ) → encode_on v_memory n s
@@ -123,39 +123,39 @@ unfolding call_on
 call_v r c = rw (v_long, call_on)
 
 v_root : get_or v_memory.roots 0x6162 0 ≡ 0x16300000300
-unfolding rootList
+unfolding root_list
 v_root = refl
 
 v_word_256 : get_or v_memory.table 256 0 ≡ 0x16500000063
-unfolding tableList
+unfolding table_list
 v_word_256 = refl
 
 v_word_257 : get_or v_memory.table 257 0 ≡ 0x464
-unfolding tableList
+unfolding table_list
 v_word_257 = refl
 
 -- ── Encoding ─────────────────────────────────────────────────────────
 
 -- abcd gives 4
 abcd : encode_on v_memory 4 (0x61 ∷ 0x62 ∷ 0x63 ∷ 0x64 ∷ []) ≡ record { answer = whole 1; cells = 4 ∷ [] }
-unfolding encoding singleList rootList tableList
+unfolding encoding single_list root_list table_list
 abcd = encode_v _ _ ∙ refl
 
 -- aab gives 1, 3
 aab : encode_on v_memory 3 (0x61 ∷ 0x61 ∷ 0x62 ∷ []) ≡ record { answer = whole 2; cells = 1 ∷ 3 ∷ [] }
-unfolding encoding singleList rootList tableList
+unfolding encoding single_list root_list table_list
 aab = encode_v _ _ ∙ refl
 
 -- abbc gives 3, 5
 abbc : encode_on v_memory 4 (0x61 ∷ 0x62 ∷ 0x62 ∷ 0x63 ∷ []) ≡ record { answer = whole 2; cells = 3 ∷ 5 ∷ [] }
-unfolding encoding singleList rootList tableList
+unfolding encoding single_list root_list table_list
 abbc = encode_v _ _ ∙ refl
 
 -- abc gives 3, then 22 at offset 2, byte 63 hex
 abc :
     encode_on v_memory 3 (0x61 ∷ 0x62 ∷ 0x63 ∷ [])
     ≡ record { answer = record { number = 22; count = 1; place = 2; value = 0x63 }; cells = 3 ∷ [] }
-unfolding encoding singleList rootList tableList
+unfolding encoding single_list root_list table_list
 abc = encode_v _ _ ∙ refl
 
 -- the same of the scan on tokens
@@ -183,38 +183,38 @@ abc-scan = refl
 ab_none :
     call_on v_memory fresh (add (0x61 ∷ 0x62 ∷ []) (replicate 2 0))
     ≡ record { answer = whole 0; stream = holding open_phase 2 (0x61 ∷ 0x62 ∷ []); ids = [] }
-unfolding call_refusal goes_through singleList rootList tableList
+unfolding call_refusal goes_through single_list root_list table_list
 ab_none = call_v _ _ ∙ refl
 
 b_three :
     call_on v_memory (holding open_phase 2 (0x61 ∷ 0x62 ∷ [])) (add (0x62 ∷ []) (replicate 3 0))
     ≡ record { answer = whole 1; stream = holding open_phase 3 (0x62 ∷ []); ids = 3 ∷ [] }
-unfolding call_refusal goes_through singleList rootList tableList
+unfolding call_refusal goes_through single_list root_list table_list
 b_three = call_v _ _ ∙ refl
 
 c_five :
     call_on v_memory (holding open_phase 3 (0x62 ∷ [])) (add (0x63 ∷ []) (replicate 2 0))
     ≡ record { answer = whole 1; stream = holding open_phase 4 []; ids = 5 ∷ [] }
-unfolding call_refusal goes_through singleList rootList tableList
+unfolding call_refusal goes_through single_list root_list table_list
 c_five = call_v _ _ ∙ refl
 
 end_none :
     call_on v_memory (holding open_phase 4 []) (end [])
     ≡ record { answer = whole 0; stream = holding ended_phase 4 []; ids = [] }
-unfolding call_refusal goes_through singleList rootList tableList
+unfolding call_refusal goes_through single_list root_list table_list
 end_none = call_v _ _ ∙ refl
 
 -- Piece abc, end: none, then 3 and 22 at 2.
 abc-none :
     call_on v_memory fresh (add (0x61 ∷ 0x62 ∷ 0x63 ∷ []) (replicate 3 0))
     ≡ record { answer = whole 0; stream = holding open_phase 3 (0x61 ∷ 0x62 ∷ 0x63 ∷ []); ids = [] }
-unfolding call_refusal goes_through singleList rootList tableList
+unfolding call_refusal goes_through single_list root_list table_list
 abc-none = call_v _ _ ∙ refl
 
 abc-ends :
     call_on v_memory (holding open_phase 3 (0x61 ∷ 0x62 ∷ 0x63 ∷ [])) (end (replicate 3 0))
     ≡ record { answer = record { number = 22; count = 1; place = 2; value = 0x63 }; stream = stopped_at 3 2 0x63; ids = 3 ∷ [] }
-unfolding call_refusal goes_through singleList rootList tableList
+unfolding call_refusal goes_through single_list root_list table_list
 abc-ends = call_v _ _ ∙ refl
 
 -- the same of the running form on tokens: what is handed out after ab, abb, abbc, abc
@@ -238,14 +238,14 @@ run-abc = refl
 
 -- Decoding 4, 1 gives abcda
 decode_4_1 : decode_on v_memory 5 (4 ∷ 1 ∷ []) ≡ record { answer = whole 5; cells = 0x61 ∷ 0x62 ∷ 0x63 ∷ 0x64 ∷ 0x61 ∷ [] }
-unfolding decoding offsetList blobBytes
+unfolding decoding offset_list blob_bytes
 decode_4_1 = decode_v _ _ ∙ refl
 
 -- 3, 0 gives 27 at index 1
 decode_3_0 :
     decode_on v_memory 5 (3 ∷ 0 ∷ [])
     ≡ record { answer = record { number = 27; count = 2; place = 1; value = 0 }; cells = 0x61 ∷ 0x62 ∷ [] }
-unfolding decoding offsetList blobBytes
+unfolding decoding offset_list blob_bytes
 decode_3_0 = decode_v _ _ ∙ refl
 
 -- ── Literals ─────────────────────────────────────────────────────────

@@ -156,18 +156,18 @@ module _ (escapes : Escapes) where
   quoted in_b s = cond (closed s) (inside in_b (get_or s 0 0) (take (length s - 2) (drop 1 s)) 0) bad
 
   -- "Optional `b`", then the quotes
-  unfoldable pub readWith : List ℕ → Read
+  unfoldable pub read_with : List ℕ → Read
   unfolding quoted
-  readWith [] = bad
-  readWith (b ∷ s) = cond (eqb b letter_b) (quoted true s) (quoted false (b ∷ s))
+  read_with [] = bad
+  read_with (b ∷ s) = cond (eqb b letter_b) (quoted true s) (quoted false (b ∷ s))
 
 abbrev pub whole : Read → Option (List ℕ)
 whole r = cond r.good (some r.bytes) none
 
 -- What an edition reads of a literal.
 unfoldable pub read : ℕ → List ℕ → Read
-unfolding readWith escapes_of
-read edition s = readWith (escapes_of edition) s
+unfolding read_with escapes_of
+read edition s = read_with (escapes_of edition) s
 
 -- The bytes of a literal; none if it is bad (refusal 12).
 unfoldable pub literal : ℕ → List ℕ → Option (List ℕ)

@@ -12,8 +12,8 @@ use Rattle.spec.specs.Line.{lines, Fields, fields}
 use Rattle.spec.specs.Literal.{literal}
 use Rattle.spec.specs.Token.{Token, seen}
 use Rattle.spec.specs.Trie.{node_count}
-use Rattle.spec.specs.Layout.{tableWords}
-use Rattle.spec.specs.Memory.{Memory, too_short, blobBytes, memory_of, emptied}
+use Rattle.spec.specs.Layout.{table_words}
+use Rattle.spec.specs.Memory.{Memory, too_short, blob_bytes, memory_of, emptied}
 
 -- ---- room
 
@@ -89,7 +89,7 @@ admit room ts t =
     let more = ts ++ (t ∷ []) in
     need 16 (not (seen ts t.bytes))
     (need 17 (leb (node_count more) room.nodes)
-    (need 18 (leb (length (blobBytes more)) room.blob)
+    (need 18 (leb (length (blob_bytes more)) room.blob)
     (pass more)))
 
 -- the id of the last token, 0 if there is none
@@ -127,7 +127,7 @@ unfoldable pub finish : Bool → Room → List Token → Outcome
 finish partial room [] = refused 19 nowhere
 finish partial room (t ∷ ts) = elim (demanded partial (missing (t ∷ ts) 256 0)) [
   | some b ↦ refused 20 (byte b)
-  | none ↦ cond (leb (tableWords (t ∷ ts)) room.table) (accepted (t ∷ ts)) (refused 21 nowhere)
+  | none ↦ cond (leb (table_words (t ∷ ts)) room.table) (accepted (t ∷ ts)) (refused 21 nowhere)
 ]
 
 -- "lines are taken one by one, counted from 1": the records rs from record n on, after the tokens ts
@@ -177,7 +177,7 @@ pub record Counts : Type 0 where
   pub table : ℕ
 
 unfoldable pub counts_of : List Token → Counts
-counts_of ts = record { tokens = length ts; nodes = node_count ts; blob = length (blobBytes ts); table = tableWords ts }
+counts_of ts = record { tokens = length ts; nodes = node_count ts; blob = length (blob_bytes ts); table = table_words ts }
 
 abbrev pub no_counts : Counts
 no_counts = record { tokens = 0; nodes = 0; blob = 0; table = 0 }

@@ -7,9 +7,9 @@ use Rattle.spec.specs.Utf8.{step_of, is_char, well_formed}
 use Rattle.spec.specs.Token.{Token, longest, undecided, bytes_of, joined, present, Full}
 use Rattle.spec.specs.Scan.{End, done, failed, scan}
 use Rattle.spec.specs.Trie.{node_count}
-use Rattle.spec.specs.Layout.{tableWords}
+use Rattle.spec.specs.Layout.{table_words}
 use Rattle.spec.specs.Valid.{Valid}
-use Rattle.spec.specs.Memory.{Memory, too_short, blobBytes, Loaded}
+use Rattle.spec.specs.Memory.{Memory, too_short, blob_bytes, Loaded}
 use Rattle.spec.specs.Match.{Match, nothing, found, match_on, undecided_on}
 use Rattle.spec.specs.Encode.{EncodeEnd, encoding}
 use Rattle.spec.specs.Encode as encode
@@ -139,9 +139,9 @@ PartialDrops20 = (form : Form) (room : Room) (body : List ℕ)
 -- Numbers fit their widths: at most 65,535 tokens, blob and nodes below 2^24, table words below 2^32.
 pub record Fits (ts : List Token) : Type 0 where
   pub tokens : length ts ≤ 65535
-  pub blob : length (blobBytes ts) < 2 ^ 24
+  pub blob : length (blob_bytes ts) < 2 ^ 24
   pub nodes : node_count ts < 2 ^ 24
-  pub table : tableWords ts < 2 ^ 32
+  pub table : table_words ts < 2 ^ 32
 
 abbrev pub Bounds : Type 0
 Bounds = (ts : List Token) → Valid ts → Fits ts

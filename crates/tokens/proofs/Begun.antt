@@ -10,7 +10,7 @@ use Rattle.spec.specs.Lists.{each, fold, over}
 use Rattle.spec.specs.Token.{id_of}
 use Rattle.nodes.specs.Run.{Nodes}
 use Rattle.spec.specs.Trie.{nodes, node_count}
-use Rattle.spec.specs.Memory.{Memory, memory, id_or_none, length_before, singleList, blobBytes, padded, emptied}
+use Rattle.spec.specs.Memory.{Memory, memory, id_or_none, length_before, single_list, blob_bytes, padded, emptied}
 use Rattle.spec.specs.Load.{last_id}
 use Rattle.loading.specs.Accepted.{none-held}
 use Rattle.nodes.proofs.InsertionMeans.{stands_none}
@@ -31,14 +31,14 @@ over_at n v d l i h =
 over_long : {A : Type 0} (n : ℕ) (v : A) (l : List A) → n ≤ length (over (replicate n v) l)
 over_long n v l = let k = length-replicate n v in let j = length-append (replicate n v) (drop (length (replicate n v)) l) in omega arith
 
-no_single : (s : List ℤ) → take 256 (over (replicate 256 (negsuc 0)) s) ≡ singleList []
-unfolding singleList
+no_single : (s : List ℤ) → take 256 (over (replicate 256 (negsuc 0)) s) ≡ single_list []
+unfolding single_list
 no_single s =
     by_index (over (replicate 256 (negsuc 0)) s) (λ (b : ℕ). id_or_none (id_of [] (b ∷ []))) 256 (pos 0) (over_long 256 (negsuc 0) s)
     (λ i h. over_at 256 (negsuc 0) (pos 0) s i h ∙ (unfold id_of in refl))
 
-no_blob : (n : ℕ) (l : List ℕ) → l ≡ replicate n 0 → l ≡ padded (blobBytes []) (length l)
-unfolding blobBytes each
+no_blob : (n : ℕ) (l : List ℕ) → l ≡ replicate n 0 → l ≡ padded (blob_bytes []) (length l)
+unfolding blob_bytes each
 no_blob n l e =
     let k : n ≡ length l - 0 = (let j = ap length e ∙ length-replicate n 0 in omega arith) in
     e ∙ ap (λ (x : ℕ). replicate x 0) k
@@ -52,11 +52,11 @@ module _ (s : List ℤ) (os bl rs : List ℕ) (ns : Nodes) where
     previous = refl;
     tokens = refl;
     made = refl;
-    used = unfold blobBytes in refl;
+    used = unfold blob_bytes in refl;
     single = no_single s;
     offsets = λ i h. over_at 65537 0 0 os i (omega arith);
     blob = no_blob (length bl) (replicate (length bl) 0) refl;
-    blob-room = (unfold blobBytes in omega arith);
+    blob-room = (unfold blob_bytes in omega arith);
     stands = stands_none (over (replicate 65536 0) rs) ns (λ i h. over_at 65536 0 0 rs i h);
     node-room = inr refl;
   }

@@ -18,7 +18,7 @@ use Rattle.spec.specs.Check.{pass, refuse, need}
 use Rattle.spec.specs.Token.{Token, id_of, seen}
 use Rattle.spec.specs.Trie.{nodes, node_count}
 use Rattle.spec.specs.Valid.{Rising, Valid}
-use Rattle.spec.specs.Memory.{id_or_none, length_before, singleList, blobBytes, padded}
+use Rattle.spec.specs.Memory.{id_or_none, length_before, single_list, blob_bytes, padded}
 use Rattle.spec.specs.Load.{Room, admit, last_id}
 use Rattle.laws.specs.Tests.{Tested, either, no_true, same-eq, same_refl, yes_case, no_case}
 use Rattle.laws.specs.OneMore.{each_append, id_snoc}
@@ -39,13 +39,13 @@ use Rattle.tokens.specs.declared.Pushed.TheVariants.{Taken, Refused}
 
 -- ---- tokens and bytes
 
-pub blob_snoc : (ts : List Token) (t : Token) → blobBytes (ts ++ (t ∷ [])) ≡ blobBytes ts ++ t.bytes
-unfolding blobBytes each
+pub blob_snoc : (ts : List Token) (t : Token) → blob_bytes (ts ++ (t ∷ [])) ≡ blob_bytes ts ++ t.bytes
+unfolding blob_bytes each
 blob_snoc ts t =
     each_append (λ (u : Token). u.bytes) ts (t ∷ []) ∙ ap (λ (l : List ℕ). each (λ (u : Token). u.bytes) ts ++ l) (append-nil t.bytes)
 
-pub total_snoc : (ts : List Token) (t : Token) → length (blobBytes (ts ++ (t ∷ []))) ≡ length (blobBytes ts) + length t.bytes
-total_snoc ts t = ap length (blob_snoc ts t) ∙ length-append (blobBytes ts) t.bytes
+pub total_snoc : (ts : List Token) (t : Token) → length (blob_bytes (ts ++ (t ∷ []))) ≡ length (blob_bytes ts) + length t.bytes
+total_snoc ts t = ap length (blob_snoc ts t) ∙ length-append (blob_bytes ts) t.bytes
 
 -- before its own id a token counts for nothing
 before-snoc : (ts : List Token) (t : Token) (i : ℕ) → i ≤ t.id → length_before (ts ++ (t ∷ [])) i ≡ length_before ts i
@@ -143,12 +143,12 @@ taken_is : (n : ℕ) → is_taken (id_or_none n) ≡ not (eqb n 0)
 taken_is zero = refl
 taken_is (suc n) = sym (ap not (ne_eqb (suc n) 0 (λ e. omega arith)))
 
-single_cell : (ts : List Token) (s : List ℤ) → take 256 s ≡ singleList ts → (b : ℕ) → b < 256 → get_or s b (pos 0)
+single_cell : (ts : List Token) (s : List ℤ) → take 256 s ≡ single_list ts → (b : ℕ) → b < 256 → get_or s b (pos 0)
     ≡ id_or_none (id_of ts (b ∷ []))
-unfolding singleList
+unfolding single_list
 single_cell ts s e b h = listed s (λ (c : ℕ). id_or_none (id_of ts (c ∷ []))) 256 e b (pos 0) h
 
-pub taken-seen : (ts : List Token) → ((u : Token) → Mem u ts → 1 ≤ u.id) → (s : List ℤ) → take 256 s ≡ singleList ts
+pub taken-seen : (ts : List Token) → ((u : Token) → Mem u ts → 1 ≤ u.id) → (s : List ℤ) → take 256 s ≡ single_list ts
     → (b : ℕ) → b < 256 → is_taken (get_or s b (pos 0)) ≡ seen ts (b ∷ [])
 taken-seen ts low s e b h = ap is_taken (single_cell ts s e b h) ∙ taken_is (id_of ts (b ∷ [])) ∙ sym (seen-id ts (b ∷ []) low)
 
@@ -248,7 +248,7 @@ module _ (ts : List Token) (t : Token) (ns : Nodes) (bl rs' : List ℕ) (ns' : N
   push-twice G = go (seen ts t.bytes) (leb (node_count more) (room ns)) G.answer
     where
       go : (a b : Bool) → Duplicate ≡ cond a Duplicate (cond b (Made (node_count more)) NoRoom)
-          → need 16 (not a) (need 17 b (need 18 (leb (length (blobBytes more)) (length bl)) (pass more))) ≡ refuse 16
+          → need 16 (not a) (need 17 b (need 18 (leb (length (blob_bytes more)) (length bl)) (pass more))) ≡ refuse 16
       go true b e = refl
       go false true e = absurd (duplicate≢made (node_count more) e)
       go false false e = let z : ◌≡◌ {A = ℕ} 0 1 = cc in absurd (omega arith)
@@ -258,7 +258,7 @@ module _ (ts : List Token) (t : Token) (ns : Nodes) (bl rs' : List ℕ) (ns' : N
   push-full G = go (seen ts t.bytes) (leb (node_count more) (room ns)) G.answer
     where
       go : (a b : Bool) → NoRoom ≡ cond a Duplicate (cond b (Made (node_count more)) NoRoom)
-          → need 16 (not a) (need 17 b (need 18 (leb (length (blobBytes more)) (length bl)) (pass more))) ≡ refuse 17
+          → need 16 (not a) (need 17 b (need 18 (leb (length (blob_bytes more)) (length bl)) (pass more))) ≡ refuse 17
       go true b e = let z : ◌≡◌ {A = ℕ} 0 1 = cc in absurd (omega arith)
       go false true e = absurd (no_room≢made (node_count more) e)
       go false false e = refl
@@ -268,7 +268,7 @@ module _ (ts : List Token) (t : Token) (ns : Nodes) (bl rs' : List ℕ) (ns' : N
     pub new : seen ts t.bytes ≡ false
     pub count : n ≡ node_count more
     pub fits : node_count more ≤ room ns
-    pub blob-decides : admit R ts t ≡ need 18 (leb (length (blobBytes more)) (length bl)) (pass more)
+    pub blob-decides : admit R ts t ≡ need 18 (leb (length (blob_bytes more)) (length bl)) (pass more)
 
   pub entered : (n : ℕ) → Grown ts t (room ns) (Made n) rs' ns' → Entered n
   unfolding admit answer_for
@@ -282,23 +282,23 @@ module _ (ts : List Token) (t : Token) (ns : Nodes) (bl rs' : List ℕ) (ns' : N
         new = p;
         count = (let z : n ≡ node_count more = cc in z);
         fits = leb-true (node_count more) (room ns) q;
-        blob-decides = ap₂ (λ (x y : Bool). need 16 (not x) (need 17 y (need 18 (leb (length (blobBytes more)) (length bl)) (pass more))))
+        blob-decides = ap₂ (λ (x y : Bool). need 16 (not x) (need 17 y (need 18 (leb (length (blob_bytes more)) (length bl)) (pass more))))
             p q
             ∙ (unfold need in refl);
       }
 
-  pub push-short : (n : ℕ) → Grown ts t (room ns) (Made n) rs' ns' → length bl < length (blobBytes ts) + length t.bytes → admit R ts t
+  pub push-short : (n : ℕ) → Grown ts t (room ns) (Made n) rs' ns' → length bl < length (blob_bytes ts) + length t.bytes → admit R ts t
       ≡ refuse 18
   push-short n G h =
       (entered n G).blob-decides
-      ∙ ap (λ (c : Bool). need 18 c (pass more)) (lt-leb (length (blobBytes more)) (length bl) (let k = total_snoc ts t in omega arith))
+      ∙ ap (λ (c : Bool). need 18 c (pass more)) (lt-leb (length (blob_bytes more)) (length bl) (let k = total_snoc ts t in omega arith))
       ∙ (unfold need in refl)
 
-  pub push-passes : (n : ℕ) → Grown ts t (room ns) (Made n) rs' ns' → length (blobBytes ts) + length t.bytes ≤ length bl → admit R ts t
+  pub push-passes : (n : ℕ) → Grown ts t (room ns) (Made n) rs' ns' → length (blob_bytes ts) + length t.bytes ≤ length bl → admit R ts t
       ≡ pass more
   push-passes n G h =
       (entered n G).blob-decides
-      ∙ ap (λ (c : Bool). need 18 c (pass more)) (le-leb (length (blobBytes more)) (length bl) (let k = total_snoc ts t in omega arith))
+      ∙ ap (λ (c : Bool). need 18 c (pass more)) (le-leb (length (blob_bytes more)) (length bl) (let k = total_snoc ts t in omega arith))
       ∙ (unfold need in refl)
 
 -- ---- the token's own cells
@@ -361,8 +361,8 @@ module _ {ts : List Token} {s : List ℤ} {os bl rs : List ℕ} {ns : Nodes} {st
       go true = length-set s (get_or bs 0 0) (pos t.id)
       go false = refl
 
-  single-list : take 256 (set_single s t.id bs) ≡ singleList ts'
-  unfolding singleList
+  single-list : take 256 (set_single s t.id bs) ≡ single_list ts'
+  unfolding single_list
   single-list =
       by_index (set_single s t.id bs) (λ (c : ℕ). id_or_none (id_of ts' (c ∷ []))) 256 (pos 0) (let e = single-length in omega arith)
       single_more
@@ -392,10 +392,10 @@ module _ {ts : List Token} {s : List ℤ} {os bl rs : List ℕ} {ns : Nodes} {st
           ∙ get_or-replicate (t.id - st.previous) (i - (st.previous + 1)) st.used 0 (omega arith)
           ∙ B.used ∙ sym (before-all ts i (λ u mu. let w = id-last u mu in omega arith)) ∙ sym (before-snoc ts t i h)
 
-  blob-more : sets bl st.used bs ≡ padded (blobBytes ts') (length bl)
+  blob-more : sets bl st.used bs ≡ padded (blob_bytes ts') (length bl)
   blob-more =
       ap (λ (x : ℕ). sets bl x bs) B.used
-      ∙ pad-more bl (blobBytes ts) bs B.blob (let e = B.used in omega arith)
+      ∙ pad-more bl (blob_bytes ts) bs B.blob (let e = B.used in omega arith)
       ∙ ap (λ (l : List ℕ). padded l (length bl)) (sym (blob_snoc ts t))
 
   pub built-more : (n : ℕ) (rs' : List ℕ) (ns' : Nodes) → Grown ts t (room ns) (Made n) rs' ns' → length ns' ≡ length ns
@@ -412,7 +412,7 @@ module _ {ts : List Token} {s : List ℤ} {os bl rs : List ℕ} {ns : Nodes} {st
         used = C.used;
         single = single-list;
         offsets = λ i h. offsets-more i (let a = C.previous in let c = last_snoc ts t in omega arith);
-        blob = blob-more ∙ ap (padded (blobBytes ts')) (sym w);
+        blob = blob-more ∙ ap (padded (blob_bytes ts')) (sym w);
         blob-room = (let a = B.used in let c = total_snoc ts t in omega arith);
         stands = G.stands n refl;
         node-room = inl (let f = E.fits in omega arith);

@@ -6,7 +6,7 @@ use Rattle.spec.specs.Check.{pass, refuse}
 use Rattle.spec.specs.Token.{Token}
 use Rattle.spec.specs.Trie.{node_count}
 use Rattle.spec.specs.Valid.{Valid}
-use Rattle.spec.specs.Memory.{length_before, singleList, blobBytes, padded}
+use Rattle.spec.specs.Memory.{length_before, single_list, blob_bytes, padded}
 use Rattle.spec.specs.Load.{Room, admit, last_id}
 use Rattle.nodes.specs.Run.{Nodes, room}
 use Rattle.nodes.specs.Stands.{Stands}
@@ -25,11 +25,11 @@ pub record Built (ts : List Token) (s : List ℤ) (os bl rs : List ℕ) (ns : No
   pub previous : st.previous ≡ last_id ts
   pub tokens : st.tokens ≡ length ts
   pub made : st.made ≡ node_count ts
-  pub used : st.used ≡ length (blobBytes ts)
-  pub single : take 256 s ≡ singleList ts
+  pub used : st.used ≡ length (blob_bytes ts)
+  pub single : take 256 s ≡ single_list ts
   pub offsets : (i : ℕ) → i ≤ st.previous → get_or os i 0 ≡ length_before ts i
-  pub blob : bl ≡ padded (blobBytes ts) (length bl)
-  pub blob-room : length (blobBytes ts) ≤ length bl
+  pub blob : bl ≡ padded (blob_bytes ts) (length bl)
+  pub blob-room : length (blob_bytes ts) ≤ length bl
   pub stands : Stands ts rs ns
   pub node-room : (node_count ts ≤ room ns) ⊎ (ts ≡ [])
 
@@ -44,7 +44,7 @@ pub record Counts (ts : List Token) (st : Build) : Type 0 where
   pub previous : st.previous ≡ last_id ts
   pub tokens : st.tokens ≡ length ts
   pub made : st.made ≡ node_count ts
-  pub used : st.used ≡ length (blobBytes ts)
+  pub used : st.used ≡ length (blob_bytes ts)
 
 -- numbers of a build that fit their widths: those of every valid vocabulary do
 pub record Small (st : Build) : Type 0 where

@@ -23,7 +23,7 @@ use types.Run.{Opds, Writes, land, look, stop, from, load, and_then, no_more}
 use Rattle.std.specs.Borrow.{RattleType}
 use denote.Laws.{Is, Typed, shows}
 use denote.Steps.{only as only_one, peeks}
-use Rattle.walks.specs.Loan.{Par, Lfs, Shs, Dens, Vss, row, News, lfs, shs, dens, Ends, ended, Long, owns_p, lasts_p, kept_p, toksP}
+use Rattle.walks.specs.Loan.{Par, Lfs, Shs, Dens, Vss, row, News, lfs, shs, dens, Ends, ended, Long, owns_p, lasts_p, kept_p, toks_p}
 use Rattle.walks.specs.Loan.{holds, Made, seen, seen_vss, unseen, lend-all, end-all}
 use Rattle.walks.specs.Positions.{rel, others, puts, apart, puts⊢}
 use Rattle.walks.specs.PlainData.{Plain}
@@ -38,7 +38,7 @@ module _ {M : Type 1} {𝓤 : Ura M} {K : Type 0} (𝓛 : Logic 𝓤) (Γ : List
       → Made 𝓛 ps κs a vss
       → (R : RattleType) (req : News ps → SProp 𝓤) (Ens : News ps → R.Denot → Ends (seen ps) → SProp 𝓤)
       (Said : R.Denot → Ends (seen ps) → Type 0)
-      → ((z : News ps) → ent 𝓤 (sep 𝓤 (sep 𝓤 (toksP 𝓛 (seen ps) (lfs ps κs z) (shs ps qs z))
+      → ((z : News ps) → ent 𝓤 (sep 𝓤 (sep 𝓤 (toks_p 𝓛 (seen ps) (lfs ps κs z) (shs ps qs z))
       (sem 𝓛 (owns_p (seen ps) (lfs ps κs z) (dens ps a z) (seen_vss ps vss)))) (req z))
       (C f (row ps vss) (After 𝓛 (seen ps) (lfs ps κs z) (shs ps qs z) (dens ps a z) R (Ens z))))
       → ((z : News ps) → ent 𝓤 (emp 𝓤) (req z))
@@ -52,7 +52,7 @@ module _ {M : Type 1} {𝓤 : Ura M} {K : Type 0} (𝓛 : Logic 𝓤) (Γ : List
       let Θ = others 𝓛 π Γ in
       let hs = holds 𝓛 ps κs qs a vss in
       let Kt : List Val → SProp 𝓤 = λ us. C f us (λ w. aim 𝓤 H (after w)) in
-      let Ts : News ps → SProp 𝓤 = λ z. toksP 𝓛 (seen ps) (lfs ps κs z) (shs ps qs z) in
+      let Ts : News ps → SProp 𝓤 = λ z. toks_p 𝓛 (seen ps) (lfs ps κs z) (shs ps qs z) in
       let Os : News ps → Fml = λ z. owns_p (seen ps) (lfs ps κs z) (dens ps a z) (seen_vss ps vss) in
       let Ks : News ps → Fml = λ z. kept_p ps κs qs a vss z in
       let Q : News ps → Val → SProp 𝓤 = λ z. After 𝓛 (seen ps) (lfs ps κs z) (shs ps qs z) (dens ps a z) R (Ens z) in
@@ -99,7 +99,7 @@ module _ {M : Type 1} {𝓤 : Ura M} (𝓛 : Logic 𝓤) (ps : List Par) (t : Bi
   -- what the callee is given, and what its contract asks, at the lifetimes that the call makes
   abbrev pub Asked : News ps → SProp 𝓤 → SProp 𝓤
   Asked z req =
-      sep 𝓤 (sep 𝓤 (toksP 𝓛 (seen ps) (at ps t z).0 (at ps t z).1)
+      sep 𝓤 (sep 𝓤 (toks_p 𝓛 (seen ps) (at ps t z).0 (at ps t z).1)
       (sem 𝓛 (owns_p (seen ps) (at ps t z).0 (at ps t z).3 (at ps t z).4))) req
 
   -- the context after the call

@@ -20,7 +20,7 @@ use denote.Ref.{MutRef, mut_vals}
 use denote.Slice.{MutSlice, ShrSlice, Room, shr_slice_vals, mut_slice_vals}
 use denote.Steps.{peeks}
 use denote.Triple.Walked.{needs}
-use Rattle.walks.specs.Loan.{Par, value, copied, viewed, lent, borrowed, Lfs, Shs, Dens, Vss, row, Mut, Shr, Ref, owns_p, toksP}
+use Rattle.walks.specs.Loan.{Par, value, copied, viewed, lent, borrowed, Lfs, Shs, Dens, Vss, row, Mut, Shr, Ref, owns_p, toks_p}
 use Rattle.walks.specs.Loan.{holds}
 use Rattle.walks.specs.PlainData.{Plain}
 
@@ -50,18 +50,18 @@ module _ {M : Type 1} {𝓤 : Ura M} (𝓛 : Logic 𝓤) where
   Known (lent R ∷ ps) pl a = Room R (length a.0.now) × Known ps pl a.1
   Known (borrowed R ∷ ps) pl a = Known ps pl a.1
 
-  abbrev pub mirsP : List Par → List Ty
-  mirsP [] = []
-  mirsP (value R ∷ ps) = R.mir ++ mirsP ps
-  mirsP (copied R ∷ ps) = (ShrSlice erased [] R).mir ++ mirsP ps
-  mirsP (viewed R ∷ ps) = (ShrSlice erased [] R).mir ++ mirsP ps
-  mirsP (lent R ∷ ps) = (MutSlice erased [] R).mir ++ mirsP ps
-  mirsP (borrowed R ∷ ps) = (MutRef erased [] R).mir ++ mirsP ps
+  abbrev pub mirs_p : List Par → List Ty
+  mirs_p [] = []
+  mirs_p (value R ∷ ps) = R.mir ++ mirs_p ps
+  mirs_p (copied R ∷ ps) = (ShrSlice erased [] R).mir ++ mirs_p ps
+  mirs_p (viewed R ∷ ps) = (ShrSlice erased [] R).mir ++ mirs_p ps
+  mirs_p (lent R ∷ ps) = (MutSlice erased [] R).mir ++ mirs_p ps
+  mirs_p (borrowed R ∷ ps) = (MutRef erased [] R).mir ++ mirs_p ps
 
   -- the machine values of what is known are of their types: so they may be stored in the locals (`begins`)
-  pub fitted : (ps : List Par) (pl : Plains ps) (a : Dens ps) → Known ps pl a → Typed (mirsP ps) (row ps (spelled ps pl a))
+  pub fitted : (ps : List Par) (pl : Plains ps) (a : Dens ps) → Known ps pl a → Typed (mirs_p ps) (row ps (spelled ps pl a))
   fitted [] pl a kn = tt
-  fitted (value R ∷ ps) pl a kn = Typed-app R.mir (mirsP ps) (pl.0.vals a.0) (row ps (spelled ps pl.1 a.1))
+  fitted (value R ∷ ps) pl a kn = Typed-app R.mir (mirs_p ps) (pl.0.vals a.0) (row ps (spelled ps pl.1 a.1))
       (pl.0.lawful.typed a.0 (pl.0.vals a.0) kn.0) (fitted ps pl.1 a.1 kn.1)
   fitted (copied R ∷ ps) pl a kn = ((tt, (tt, (record { fits = kn.0.0 }, tt))), fitted ps pl a.1 kn.1)
   fitted (viewed R ∷ ps) pl a kn = absurd pl.0
@@ -84,13 +84,13 @@ module _ {M : Type 1} {𝓤 : Ura M} (𝓛 : Logic 𝓤) where
 
   module _ where
     enters : (ps : List Par) (pl : Plains ps) (κs : Lfs ps) (qs : Shs ps) (a : Dens ps) (vss : Vss ps)
-        → ent 𝓤 (sep 𝓤 (toksP 𝓛 ps κs qs) (sem 𝓛 (owns_p ps κs a vss)))
+        → ent 𝓤 (sep 𝓤 (toks_p 𝓛 ps κs qs) (sem 𝓛 (owns_p ps κs a vss)))
         (ex 𝓤 (λ (_ : vss ≡ spelled ps pl a). guard 𝓤 (Known ps pl a) (⋆ 𝓛 (holds 𝓛 ps κs qs a vss))))
     enters [] pl κs qs a vss = qed 𝓛 (raw (emp 𝓤) ∷ ‵ ftrue ∷ []) ∵ show ! (λ (_ : vss ≡ tt). guard 𝓤 (Unit {0}) (emp 𝓤)) refl
         $ check ! tt $ drop ! $ drop ! $ done !
     enters (value R ∷ ps) pl κs qs a vss =
         let rest = holds 𝓛 ps κs qs a.1 vss.1 in
-        qed 𝓛 (raw (toksP 𝓛 ps κs qs) ∷ ‵ (owns_p (value R ∷ ps) κs a vss) ∷ []) ∵ move ! (1 ∷ []) $ fsplit ! $
+        qed 𝓛 (raw (toks_p 𝓛 ps κs qs) ∷ ‵ (owns_p (value R ∷ ps) κs a vss) ∷ []) ∵ move ! (1 ∷ []) $ fsplit ! $
         peeks ! R (Is R) (shows 𝓛 R) a.0 vss.0 (λ p. drop ! $ move ! (1 ∷ 0 ∷ []) $
         use2 𝓛 (exists (λ (_ : vss.1 ≡ spelled ps pl.1 a.1). given (Known ps pl.1 a.1) (raw (⋆ 𝓛 rest))))
         (enters ps pl.1 κs qs a.1 vss.1) $
@@ -99,7 +99,7 @@ module _ {M : Type 1} {𝓤 : Ura M} (𝓛 : Logic 𝓤) where
     enters (copied R ∷ ps) pl κs qs a vss =
         let rest = holds 𝓛 ps κs.1 qs.1 a.1 vss.1 in
         let S = ShrSlice erased κs.0 R in
-        qed 𝓛 ((‵ (flft κs.0 qs.0) ⊛ raw (toksP 𝓛 ps κs.1 qs.1)) ∷ ‵ (owns_p (copied R ∷ ps) κs a vss) ∷ []) ∵ split !
+        qed 𝓛 ((‵ (flft κs.0 qs.0) ⊛ raw (toks_p 𝓛 ps κs.1 qs.1)) ∷ ‵ (owns_p (copied R ∷ ps) κs a vss) ∷ []) ∵ split !
         $ move ! (2 ∷ []) $ fsplit ! $
         peeks ! S (Is S) (shows 𝓛 S) a.0 vss.0 (λ p. move ! (3 ∷ 1 ∷ []) $
         use2 𝓛 (exists (λ (_ : vss.1 ≡ spelled ps pl a.1). given (Known ps pl a.1) (raw (⋆ 𝓛 rest))))
@@ -112,7 +112,7 @@ module _ {M : Type 1} {𝓤 : Ura M} (𝓛 : Logic 𝓤) where
     enters (lent R ∷ ps) pl κs qs a vss =
         let rest = holds 𝓛 ps κs.1 qs.1 a.1 vss.1 in
         let S = MutSlice erased κs.0 R in
-        qed 𝓛 ((‵ (flft κs.0 qs.0) ⊛ raw (toksP 𝓛 ps κs.1 qs.1)) ∷ ‵ (owns_p (lent R ∷ ps) κs a vss) ∷ []) ∵ split !
+        qed 𝓛 ((‵ (flft κs.0 qs.0) ⊛ raw (toks_p 𝓛 ps κs.1 qs.1)) ∷ ‵ (owns_p (lent R ∷ ps) κs a vss) ∷ []) ∵ split !
         $ move ! (2 ∷ []) $ fsplit ! $
         peeks ! S (Is S) (shows 𝓛 S) a.0 vss.0 (λ p. move ! (3 ∷ 1 ∷ []) $
         use2 𝓛 (exists (λ (_ : vss.1 ≡ spelled ps pl a.1). given (Known ps pl a.1) (raw (⋆ 𝓛 rest))))
@@ -124,7 +124,7 @@ module _ {M : Type 1} {𝓤 : Ura M} (𝓛 : Logic 𝓤) where
     enters (borrowed R ∷ ps) pl κs qs a vss =
         let rest = holds 𝓛 ps κs.1 qs.1 a.1 vss.1 in
         let S = MutRef erased κs.0 R in
-        qed 𝓛 ((‵ (flft κs.0 qs.0) ⊛ raw (toksP 𝓛 ps κs.1 qs.1)) ∷ ‵ (owns_p (borrowed R ∷ ps) κs a vss) ∷ []) ∵ split !
+        qed 𝓛 ((‵ (flft κs.0 qs.0) ⊛ raw (toks_p 𝓛 ps κs.1 qs.1)) ∷ ‵ (owns_p (borrowed R ∷ ps) κs a vss) ∷ []) ∵ split !
         $ move ! (2 ∷ []) $ fsplit ! $
         peeks ! S (Is S) (shows 𝓛 S) a.0 vss.0 (λ p. move ! (3 ∷ 1 ∷ []) $
         use2 𝓛 (exists (λ (_ : vss.1 ≡ spelled ps pl a.1). given (Known ps pl a.1) (raw (⋆ 𝓛 rest))))
@@ -140,9 +140,9 @@ module _ {M : Type 1} {𝓤 : Ura M} (𝓛 : Logic 𝓤) where
         → ent 𝓤 req (fact 𝓤 φ)
         → (run : Fun 𝓤) {Q : Val → SProp 𝓤}
         → (Known ps pl a → φ → ent 𝓤 (⋆ 𝓛 (holds 𝓛 ps κs qs a (spelled ps pl a))) (run (row ps (spelled ps pl a)) Q))
-        → ent 𝓤 (sep 𝓤 (sep 𝓤 (toksP 𝓛 ps κs qs) (sem 𝓛 (owns_p ps κs a vss))) req) (run (row ps vss) Q)
+        → ent 𝓤 (sep 𝓤 (sep 𝓤 (toks_p 𝓛 ps κs qs) (sem 𝓛 (owns_p ps κs a vss))) req) (run (row ps vss) Q)
     met ps pl κs qs a vss {req} φ asked run {Q} k =
-        let P = sep 𝓤 (toksP 𝓛 ps κs qs) (sem 𝓛 (owns_p ps κs a vss)) in
+        let P = sep 𝓤 (toks_p 𝓛 ps κs qs) (sem 𝓛 (owns_p ps κs a vss)) in
         via 𝓤 (sep 𝓤 P (fact 𝓤 φ)) (mono_r 𝓤 P asked) (needs 𝓤 φ P (λ x.
         qed 𝓛 (raw P ∷ []) ∵ use1 𝓛 (exists (λ (_ : vss ≡ spelled ps pl a). given (Known ps pl a)
         (raw (⋆ 𝓛 (holds 𝓛 ps κs qs a vss))))) (enters ps pl κs qs a vss) $

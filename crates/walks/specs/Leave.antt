@@ -23,7 +23,7 @@ use denote.Slice.{mut_slice_at, finally, res-finally}
 use denote.Shadow.{pure_l}
 use denote.Steps.{nothing}
 use Rattle.walks.specs.Loan.{Par, value, copied, viewed, lent, borrowed, Lfs, Shs, Dens, Vss, Ends, ended, Long, Mut, Shr, Ref}
-use Rattle.walks.specs.Loan.{lasts_p, toksP, holds}
+use Rattle.walks.specs.Loan.{lasts_p, toks_p, holds}
 use Rattle.walks.specs.PlainData.{Plain}
 use Rattle.walks.specs.Enter.{Plains}
 
@@ -66,11 +66,11 @@ module _ {M : Type 1} {𝓤 : Ura M} (𝓛 : Logic 𝓤) where
         fsplit ! $ name_done ! tt $ at_once ! $ fjoin ! $ move ! (1 ∷ 0 ∷ []) $ done !)
 
     give_all : (ps : List Par) → Plains 𝓛 ps → (κs : Lfs ps) (qs : Shs ps) (a : Dens ps) (vss : Vss ps) (ws : Ends ps) → Long ps a ws
-        → ent 𝓤 (⋆ 𝓛 (holds 𝓛 ps κs qs (ended ps a ws) vss)) (H.⇛ (sep 𝓤 (toksP 𝓛 ps κs qs) (sem 𝓛 (lasts_p ps κs a ws))))
+        → ent 𝓤 (⋆ 𝓛 (holds 𝓛 ps κs qs (ended ps a ws) vss)) (H.⇛ (sep 𝓤 (toks_p 𝓛 ps κs qs) (sem 𝓛 (lasts_p ps κs a ws))))
     give_all [] pl κs qs a vss ws l = qed 𝓛 [] ∵ updating ! $ at_once ! $ nothing ! $ nothing ! $ done !
     give_all (value R ∷ ps) pl κs qs a vss ws l =
         qed 𝓛 (raw (⋆ 𝓛 (holds 𝓛 ps κs qs (ended ps a.1 ws.1) vss.1)) ∷ []) ∵ updating ! $
-        use1 𝓛 (later (raw (toksP 𝓛 ps κs qs) ⊛ ‵ (lasts_p ps κs a.1 ws.1))) (give_all ps pl.1 κs qs a.1 vss.1 ws.1 l)
+        use1 𝓛 (later (raw (toks_p 𝓛 ps κs qs) ⊛ ‵ (lasts_p ps κs a.1 ws.1))) (give_all ps pl.1 κs qs a.1 vss.1 ws.1 l)
         $ await ! tt $ split ! $ at_once ! $ frame ! $
         nothing ! $ fjoin ! $ done !
     give_all (copied R ∷ ps) pl κs qs a vss ws l =
@@ -78,7 +78,7 @@ module _ {M : Type 1} {𝓤 : Ura M} (𝓛 : Logic 𝓤) where
         via 𝓤 (sep 𝓤 (sem 𝓛 (Shr R κs.0 qs.0 a.0 vss.0)) (⋆ 𝓛 rest))
         (pop 𝓛 (‵ (Shr R κs.0 qs.0 a.0 vss.0)) rest)
         (qed 𝓛 (‵ (Shr R κs.0 qs.0 a.0 vss.0) ∷ raw (⋆ 𝓛 rest) ∷ []) ∵ updating ! $ fsplit ! $ drop ! $ move ! (1 ∷ []) $
-        use1 𝓛 (later (raw (toksP 𝓛 ps κs.1 qs.1) ⊛ ‵ (lasts_p ps κs.1 a.1 ws.1)))
+        use1 𝓛 (later (raw (toks_p 𝓛 ps κs.1 qs.1) ⊛ ‵ (lasts_p ps κs.1 a.1 ws.1)))
         (give_all ps pl κs.1 qs.1 a.1 vss.1 ws.1 l) $ await ! tt $ split ! $ at_once ! $
         move ! (2 ∷ 0 ∷ []) $ join ! $ frame ! $ nothing ! $ fjoin ! $ done !)
     give_all (viewed R ∷ ps) pl κs qs a vss ws l = absurd pl.0
@@ -89,7 +89,7 @@ module _ {M : Type 1} {𝓤 : Ura M} (𝓛 : Logic 𝓤) where
         (qed 𝓛 (‵ S ∷ raw (⋆ 𝓛 rest) ∷ []) ∵ updating ! $
         use1 𝓛 (later (‵ (flft κs.0 qs.0) ⊛ ‵ (LastMut R κs.0 a.0 ws.0))) (last-mut R κs.0 qs.0 a.0 vss.0 ws.0 l.0)
         $ await ! tt $ split ! $ move ! (2 ∷ []) $
-        use1 𝓛 (later (raw (toksP 𝓛 ps κs.1 qs.1) ⊛ ‵ (lasts_p ps κs.1 a.1 ws.1)))
+        use1 𝓛 (later (raw (toks_p 𝓛 ps κs.1 qs.1) ⊛ ‵ (lasts_p ps κs.1 a.1 ws.1)))
         (give_all ps pl κs.1 qs.1 a.1 vss.1 ws.1 l.1) $ await ! tt $ split ! $ at_once ! $
         -- [tokens; lasts; the token; the last list]
         move ! (2 ∷ 0 ∷ []) $ join ! $ frame ! $ move ! (1 ∷ 0 ∷ []) $ fjoin ! $ done !)
@@ -100,13 +100,13 @@ module _ {M : Type 1} {𝓤 : Ura M} (𝓛 : Logic 𝓤) where
         (qed 𝓛 (‵ S ∷ raw (⋆ 𝓛 rest) ∷ []) ∵ updating ! $
         use1 𝓛 (later (‵ (flft κs.0 qs.0) ⊛ ‵ (LastRef R κs.0 a.0 ws.0))) (last-ref R κs.0 qs.0 a.0 vss.0 ws.0)
         $ await ! tt $ split ! $ move ! (2 ∷ []) $
-        use1 𝓛 (later (raw (toksP 𝓛 ps κs.1 qs.1) ⊛ ‵ (lasts_p ps κs.1 a.1 ws.1)))
+        use1 𝓛 (later (raw (toks_p 𝓛 ps κs.1 qs.1) ⊛ ‵ (lasts_p ps κs.1 a.1 ws.1)))
         (give_all ps pl κs.1 qs.1 a.1 vss.1 ws.1 l) $ await ! tt $ split ! $ at_once ! $
         move ! (2 ∷ 0 ∷ []) $ join ! $ frame ! $ move ! (1 ∷ 0 ∷ []) $ fjoin ! $ done !)
 
     -- what a contract's `post` is, over the list of parameters
     abbrev pub After : (ps : List Par) → Lfs ps → Shs ps → Dens ps → (R : RattleType) → (R.Denot → Ends ps → SProp 𝓤) → Val → SProp 𝓤
-    After ps κs qs a R Ens v = H.⇛ (ex 𝓤 (λ (r : R.Denot). sep 𝓤 (sep 𝓤 (toksP 𝓛 ps κs qs) (sem 𝓛 (R.own_val r (v ∷ []))))
+    After ps κs qs a R Ens v = H.⇛ (ex 𝓤 (λ (r : R.Denot). sep 𝓤 (sep 𝓤 (toks_p 𝓛 ps κs qs) (sem 𝓛 (R.own_val r (v ∷ []))))
         (ex 𝓤 (λ (ws : Ends ps). sep 𝓤 (sem 𝓛 (lasts_p ps κs a ws)) (Ens r ws)))))
 
     pub ends_with : (ps : List Par) → Plains 𝓛 ps → (κs : Lfs ps) (qs : Shs ps) (a : Dens ps) (vss : Vss ps) (R : RattleType)
@@ -116,9 +116,9 @@ module _ {M : Type 1} {𝓤 : Ura M} (𝓛 : Logic 𝓤) where
         → ent 𝓤 (⋆ 𝓛 (holds 𝓛 ps κs qs (ended ps a ws) vss)) (After ps κs qs a R Ens v)
     ends_with ps pl κs qs a vss R pr Ens v r is ws l ens =
         qed 𝓛 (raw (⋆ 𝓛 (holds 𝓛 ps κs qs (ended ps a ws) vss)) ∷ []) ∵ updating ! $
-        use1 𝓛 (later (raw (toksP 𝓛 ps κs qs) ⊛ ‵ (lasts_p ps κs a ws))) (give_all ps pl κs qs a vss ws l) $ await ! tt $ split !
+        use1 𝓛 (later (raw (toks_p 𝓛 ps κs qs) ⊛ ‵ (lasts_p ps κs a ws))) (give_all ps pl κs qs a vss ws l) $ await ! tt $ split !
         $ at_once ! $
-        show ! (λ (r' : R.Denot). sep 𝓤 (sep 𝓤 (toksP 𝓛 ps κs qs) (sem 𝓛 (R.own_val r' (v ∷ []))))
+        show ! (λ (r' : R.Denot). sep 𝓤 (sep 𝓤 (toks_p 𝓛 ps κs qs) (sem 𝓛 (R.own_val r' (v ∷ []))))
         (ex 𝓤 (λ (us : Ends ps). sep 𝓤 (sem 𝓛 (lasts_p ps κs a us)) (Ens r' us)))) r $
         use0 𝓛 (‵ (R.own_val r (v ∷ []))) (pr.makes r (v ∷ []) is) $ move ! (1 ∷ 0 ∷ []) $ join ! $ frame ! $
         show ! (λ (us : Ends ps). sep 𝓤 (sem 𝓛 (lasts_p ps κs a us)) (Ens r us)) ws $ frame ! $ use0 𝓛 (raw (Ens r ws)) ens $ done !

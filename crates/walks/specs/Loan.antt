@@ -213,13 +213,13 @@ kept_p (borrowed R ∷ ps) κs qs a vss z = fsep (Stays R κs.0 qs.0 a.0 vss.0 z
 module _ {M : Type 1} {𝓤 : Ura M} (𝓛 : Logic 𝓤) where
   open 𝓛 use {H, A}
 
-  abbrev pub toksP : (ps : List Par) → Lfs ps → Shs ps → SProp 𝓤
-  toksP [] κs qs = emp 𝓤
-  toksP (value R ∷ ps) κs qs = toksP ps κs qs
-  toksP (copied R ∷ ps) κs qs = sep 𝓤 (A.lft κs.0 qs.0) (toksP ps κs.1 qs.1)
-  toksP (viewed R ∷ ps) κs qs = sep 𝓤 (A.lft κs.0 qs.0) (toksP ps κs.1 qs.1)
-  toksP (lent R ∷ ps) κs qs = sep 𝓤 (A.lft κs.0 qs.0) (toksP ps κs.1 qs.1)
-  toksP (borrowed R ∷ ps) κs qs = sep 𝓤 (A.lft κs.0 qs.0) (toksP ps κs.1 qs.1)
+  abbrev pub toks_p : (ps : List Par) → Lfs ps → Shs ps → SProp 𝓤
+  toks_p [] κs qs = emp 𝓤
+  toks_p (value R ∷ ps) κs qs = toks_p ps κs qs
+  toks_p (copied R ∷ ps) κs qs = sep 𝓤 (A.lft κs.0 qs.0) (toks_p ps κs.1 qs.1)
+  toks_p (viewed R ∷ ps) κs qs = sep 𝓤 (A.lft κs.0 qs.0) (toks_p ps κs.1 qs.1)
+  toks_p (lent R ∷ ps) κs qs = sep 𝓤 (A.lft κs.0 qs.0) (toks_p ps κs.1 qs.1)
+  toks_p (borrowed R ∷ ps) κs qs = sep 𝓤 (A.lft κs.0 qs.0) (toks_p ps κs.1 qs.1)
 
   abbrev pub holds : (ps : List Par) → Lfs ps → Shs ps → Dens ps → Vss ps → List (Item 𝓤)
   holds [] κs qs a vss = []
@@ -319,12 +319,12 @@ module _ {M : Type 1} {𝓤 : Ura M} (𝓛 : Logic 𝓤) where
           rewrite ! 0 (λ (us : List Val). ‵ ((MutRef erased κ R).own_val (at_last x w) us)) (sym e) refl $ at_once ! $ fjoin ! $ done !)
 
     abbrev pub Out : (ps : List Par) (κs : Lfs ps) (qs : Shs ps) (a : Dens ps) (vss : Vss ps) → News ps → SProp 𝓤
-    Out ps κs qs a vss z = sep 𝓤 (sep 𝓤 (toksP (seen ps) (lfs ps κs z) (shs ps qs z))
+    Out ps κs qs a vss z = sep 𝓤 (sep 𝓤 (toks_p (seen ps) (lfs ps κs z) (shs ps qs z))
         (sem 𝓛 (owns_p (seen ps) (lfs ps κs z) (dens ps a z) (seen_vss ps vss))))
         (sem 𝓛 (kept_p ps κs qs a vss z))
 
     abbrev OutI : (ps : List Par) (κs : Lfs ps) (qs : Shs ps) (a : Dens ps) (vss : Vss ps) → News ps → Item 𝓤
-    OutI ps κs qs a vss z = (raw (toksP (seen ps) (lfs ps κs z) (shs ps qs z))
+    OutI ps κs qs a vss z = (raw (toks_p (seen ps) (lfs ps κs z) (shs ps qs z))
         ⊛ ‵ (owns_p (seen ps) (lfs ps κs z) (dens ps a z) (seen_vss ps vss)))
         ⊛ ‵ (kept_p ps κs qs a vss z)
 
@@ -394,12 +394,12 @@ module _ {M : Type 1} {𝓤 : Ura M} (𝓛 : Logic 𝓤) where
         $ move ! (1 ∷ 0 ∷ []) $ join ! $ done !))))
 
     abbrev pub In : (ps : List Par) (κs : Lfs ps) (qs : Shs ps) (a : Dens ps) (vss : Vss ps) → News ps → Ends (seen ps) → SProp 𝓤
-    In ps κs qs a vss z ws = sep 𝓤 (sep 𝓤 (toksP (seen ps) (lfs ps κs z) (shs ps qs z))
+    In ps κs qs a vss z ws = sep 𝓤 (sep 𝓤 (toks_p (seen ps) (lfs ps κs z) (shs ps qs z))
         (sem 𝓛 (lasts_p (seen ps) (lfs ps κs z) (dens ps a z) ws)))
         (sem 𝓛 (kept_p ps κs qs a vss z))
 
     abbrev InI : (ps : List Par) (κs : Lfs ps) (qs : Shs ps) (a : Dens ps) (vss : Vss ps) → News ps → Ends (seen ps) → Item 𝓤
-    InI ps κs qs a vss z ws = (raw (toksP (seen ps) (lfs ps κs z) (shs ps qs z))
+    InI ps κs qs a vss z ws = (raw (toks_p (seen ps) (lfs ps κs z) (shs ps qs z))
         ⊛ ‵ (lasts_p (seen ps) (lfs ps κs z) (dens ps a z) ws)) ⊛ ‵ (kept_p ps κs qs a vss z)
 
     pub end-all : (ps : List Par) (κs : Lfs ps) (qs : Shs ps) (a : Dens ps) (vss : Vss ps) (z : News ps) (ws : Ends (seen ps))
@@ -413,7 +413,7 @@ module _ {M : Type 1} {𝓤 : Ura M} (𝓛 : Logic 𝓤) where
     end-all (copied R ∷ ps) κs qs a vss z ws =
         let hs = holds ps κs.1 qs.1 (ended ps a.1 (unseen ps ws.1)) vss.1 in
         qed 𝓛 (InI (copied R ∷ ps) κs qs a vss z ws ∷ []) ∵ updating ! $ split ! $ split ! $
-        use1 𝓛 (‵ (flft κs.0 qs.0) ⊛ raw (toksP (seen ps) (lfs ps κs.1 z) (shs ps qs.1 z))) (id⊢ 𝓤 _) $ split ! $
+        use1 𝓛 (‵ (flft κs.0 qs.0) ⊛ raw (toks_p (seen ps) (lfs ps κs.1 z) (shs ps qs.1 z))) (id⊢ 𝓤 _) $ split ! $
         move ! (2 ∷ []) $ fsplit ! $ drop ! $ move ! (3 ∷ []) $ fsplit ! $
         -- [the copy; kept; lasts; the token; tokens]
         move ! (4 ∷ 2 ∷ []) $ join ! $ move ! (0 ∷ 2 ∷ []) $ join ! $
@@ -424,7 +424,7 @@ module _ {M : Type 1} {𝓤 : Ura M} (𝓛 : Logic 𝓤) where
     end-all (viewed R ∷ ps) κs qs a vss z ws =
         let hs = holds ps κs.1 qs.1 (ended ps a.1 (unseen ps ws.1)) vss.1 in
         qed 𝓛 (InI (viewed R ∷ ps) κs qs a vss z ws ∷ []) ∵ updating ! $ split ! $ split ! $
-        use1 𝓛 (‵ (flft (z.0 ∷ []) full_share) ⊛ raw (toksP (seen ps) (lfs ps κs.1 z.1) (shs ps qs.1 z.1))) (id⊢ 𝓤 _) $ split ! $
+        use1 𝓛 (‵ (flft (z.0 ∷ []) full_share) ⊛ raw (toks_p (seen ps) (lfs ps κs.1 z.1) (shs ps qs.1 z.1))) (id⊢ 𝓤 _) $ split ! $
         move ! (2 ∷ []) $ fsplit ! $ drop ! $ move ! (3 ∷ []) $ fsplit ! $
         move ! (4 ∷ 2 ∷ []) $ join ! $ move ! (0 ∷ 2 ∷ []) $ join ! $
         use1 𝓛 (later (given (Long ps a.1 (unseen ps ws.1)) (raw (⋆ 𝓛 hs)))) (end-all ps κs.1 qs.1 a.1 vss.1 z.1 ws.1)
@@ -435,7 +435,7 @@ module _ {M : Type 1} {𝓤 : Ura M} (𝓛 : Logic 𝓤) where
     end-all (lent R ∷ ps) κs qs a vss z ws =
         let hs = holds ps κs.1 qs.1 (ended ps a.1 (unseen ps ws.1)) vss.1 in
         qed 𝓛 (InI (lent R ∷ ps) κs qs a vss z ws ∷ []) ∵ updating ! $ split ! $ split ! $
-        use1 𝓛 (‵ (flft (z.0.0 ∷ []) full_share) ⊛ raw (toksP (seen ps) (lfs ps κs.1 z.1) (shs ps qs.1 z.1))) (id⊢ 𝓤 _) $ split ! $
+        use1 𝓛 (‵ (flft (z.0.0 ∷ []) full_share) ⊛ raw (toks_p (seen ps) (lfs ps κs.1 z.1) (shs ps qs.1 z.1))) (id⊢ 𝓤 _) $ split ! $
         move ! (2 ∷ []) $ fsplit ! $ move ! (4 ∷ []) $ fsplit ! $
         -- [what stays; kept; what is said; lasts; the token; tokens]
         move ! (5 ∷ 3 ∷ []) $ join ! $ move ! (0 ∷ 2 ∷ []) $ join ! $
@@ -448,7 +448,7 @@ module _ {M : Type 1} {𝓤 : Ura M} (𝓛 : Logic 𝓤) where
     end-all (borrowed R ∷ ps) κs qs a vss z ws =
         let hs = holds ps κs.1 qs.1 (ended ps a.1 (unseen ps ws.1)) vss.1 in
         qed 𝓛 (InI (borrowed R ∷ ps) κs qs a vss z ws ∷ []) ∵ updating ! $ split ! $ split ! $
-        use1 𝓛 (‵ (flft (z.0.0 ∷ []) full_share) ⊛ raw (toksP (seen ps) (lfs ps κs.1 z.1) (shs ps qs.1 z.1))) (id⊢ 𝓤 _) $ split ! $
+        use1 𝓛 (‵ (flft (z.0.0 ∷ []) full_share) ⊛ raw (toks_p (seen ps) (lfs ps κs.1 z.1) (shs ps qs.1 z.1))) (id⊢ 𝓤 _) $ split ! $
         move ! (2 ∷ []) $ fsplit ! $ move ! (4 ∷ []) $ fsplit ! $
         move ! (5 ∷ 3 ∷ []) $ join ! $ move ! (0 ∷ 2 ∷ []) $ join ! $
         use1 𝓛 (later (given (Long ps a.1 (unseen ps ws.1)) (raw (⋆ 𝓛 hs)))) (end-all ps κs.1 qs.1 a.1 vss.1 z.1 ws.1)

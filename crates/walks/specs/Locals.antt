@@ -40,9 +40,9 @@ module _ {M : Type 1} (𝓤 : Ura M) (H : Heap 𝓤) where
   Stored [] vs = ⊥
   Stored (l ∷ ls) vs = Fitted ls vs
 
-  abbrev pub envAt : (ls : List Local) → Blocks ls → Env 𝓤 H
-  envAt [] bs = []
-  envAt (l ∷ ls) bs = (ty_of 𝓤 H l, bs.0) ∷ envAt ls bs.1
+  abbrev pub env_at : (ls : List Local) → Blocks ls → Env 𝓤 H
+  env_at [] bs = []
+  env_at (l ∷ ls) bs = (ty_of 𝓤 H l, bs.0) ∷ env_at ls bs.1
 
   abbrev pub dying : Env 𝓤 H → Fml
   dying [] = ftrue
@@ -65,15 +65,15 @@ module _ {M : Type 1} {𝓤 : Ura M} (𝓛 : Logic 𝓤) where
   open 𝓛 use {H}
 
   alloc_all : (ls : List Local) (P : SProp 𝓤) (Kt : Env 𝓤 H → SProp 𝓤)
-      → ((bs : Blocks ls) → ent 𝓤 (sep 𝓤 (⋆ 𝓛 (rooms 𝓤 H (envAt 𝓤 H ls bs))) (sep 𝓤 (sem 𝓛 (dying 𝓤 H (envAt 𝓤 H ls bs))) P))
-      (Kt (envAt 𝓤 H ls bs))) → ent 𝓤 P (alloc 𝓤 H ls Kt)
+      → ((bs : Blocks ls) → ent 𝓤 (sep 𝓤 (⋆ 𝓛 (rooms 𝓤 H (env_at 𝓤 H ls bs))) (sep 𝓤 (sem 𝓛 (dying 𝓤 H (env_at 𝓤 H ls bs))) P))
+      (Kt (env_at 𝓤 H ls bs))) → ent 𝓤 P (alloc 𝓤 H ls Kt)
   alloc_all [] P Kt k = via 𝓤 (sep 𝓤 (emp 𝓤) (sep 𝓤 (emp 𝓤) P)) (via 𝓤 (sep 𝓤 (emp 𝓤) P) (emp∗ 𝓤 P) (mono_r 𝓤 (emp 𝓤) (emp∗ 𝓤 P))) (k tt)
   alloc_all (l ∷ ls) P Kt k =
       let τ = ty_of 𝓤 H l in
       all_i 𝓤 (λ (b : ℕ). wand 𝓤 (sep 𝓤 (H.room τ b zero) (H.dies τ b)) (alloc 𝓤 H ls (λ E. Kt ((τ, b) ∷ E)))) (λ b.
       wand_i 𝓤 P (sep 𝓤 (H.room τ b zero) (H.dies τ b)) (alloc 𝓤 H ls (λ E. Kt ((τ, b) ∷ E)))
       (alloc_all ls (sep 𝓤 P (sep 𝓤 (H.room τ b zero) (H.dies τ b))) (λ E. Kt ((τ, b) ∷ E)) (λ bs.
-      let E = envAt 𝓤 H ls bs in
+      let E = env_at 𝓤 H ls bs in
       via 𝓤 (sep 𝓤 (⋆ 𝓛 (rooms 𝓤 H ((τ, b) ∷ E))) (sep 𝓤 (sem 𝓛 (dying 𝓤 H ((τ, b) ∷ E))) P))
       (qed 𝓛 (raw (⋆ 𝓛 (rooms 𝓤 H E)) ∷ (‵ (dying 𝓤 H E) ⊛ (raw P ⊛ (‵ (froom τ b zero) ⊛ ‵ (fdies τ b)))) ∷ []) ∵
       move ! (1 ∷ []) $ split ! $ move ! (1 ∷ []) $ split ! $ move ! (1 ∷ []) $ split ! $
@@ -83,14 +83,14 @@ module _ {M : Type 1} {𝓤 : Ura M} (𝓛 : Logic 𝓤) where
       (k (b, bs)))))
 
   pass_all : (ls : List Local) (bs : Blocks ls) (vs : List Val) → Fitted 𝓤 H ls vs → (R Q : SProp 𝓤)
-      → ent 𝓤 (sep 𝓤 (⋆ 𝓛 (filled 𝓤 H (envAt 𝓤 H ls bs) vs)) R) Q → ent 𝓤 (sep 𝓤 (⋆ 𝓛 (rooms 𝓤 H (envAt 𝓤 H ls bs))) R)
-      (pass 𝓤 H (envAt 𝓤 H ls bs) vs Q)
+      → ent 𝓤 (sep 𝓤 (⋆ 𝓛 (filled 𝓤 H (env_at 𝓤 H ls bs) vs)) R) Q → ent 𝓤 (sep 𝓤 (⋆ 𝓛 (rooms 𝓤 H (env_at 𝓤 H ls bs))) R)
+      (pass 𝓤 H (env_at 𝓤 H ls bs) vs Q)
   pass_all ls bs [] fit R Q k = k
   pass_all [] bs (v ∷ vs) fit R Q k = absurd fit
   pass_all (l ∷ ls) bs (v ∷ vs) fit R Q k =
       let τ = ty_of 𝓤 H l in
       let b = bs.0 in
-      let E = envAt 𝓤 H ls bs.1 in
+      let E = env_at 𝓤 H ls bs.1 in
       let at = H.at full_share τ b zero v in
       let P = ⋆ 𝓛 (rooms 𝓤 H E) in
       via 𝓤 (sep 𝓤 (H.room τ b zero) (wand 𝓤 at (pass 𝓤 H E vs Q)))
@@ -108,15 +108,15 @@ module _ {M : Type 1} {𝓤 : Ura M} (𝓛 : Logic 𝓤) where
       (guard_i 𝓤 (Holds (has_ty τ v) × WT v) (sep 𝓤 (H.room τ b zero) (wand 𝓤 at (pass 𝓤 H E vs Q))) fit.0)
 
   store-all : (ls : List Local) (bs : Blocks ls) (vs : List Val) → Stored 𝓤 H ls vs → (R Q : SProp 𝓤)
-      → ent 𝓤 (sep 𝓤 (⋆ 𝓛 (stored 𝓤 H (envAt 𝓤 H ls bs) vs)) R) Q → ent 𝓤 (sep 𝓤 (⋆ 𝓛 (rooms 𝓤 H (envAt 𝓤 H ls bs))) R)
-      (params 𝓤 H (envAt 𝓤 H ls bs) vs Q)
+      → ent 𝓤 (sep 𝓤 (⋆ 𝓛 (stored 𝓤 H (env_at 𝓤 H ls bs) vs)) R) Q → ent 𝓤 (sep 𝓤 (⋆ 𝓛 (rooms 𝓤 H (env_at 𝓤 H ls bs))) R)
+      (params 𝓤 H (env_at 𝓤 H ls bs) vs Q)
   store-all [] bs vs fit R Q k = absurd fit
   store-all (l ∷ ls) bs vs fit R Q k =
       let F = ‵ (froom (ty_of 𝓤 H l) bs.0 zero) in
-      let E = envAt 𝓤 H ls bs.1 in
+      let E = env_at 𝓤 H ls bs.1 in
       let S = H.room (ty_of 𝓤 H l) bs.0 zero in
       via 𝓤 (sep 𝓤 (⋆ 𝓛 (rooms 𝓤 H E)) (sep 𝓤 S R))
-      (qed 𝓛 (raw (⋆ 𝓛 (rooms 𝓤 H (envAt 𝓤 H (l ∷ ls) bs))) ∷ raw R ∷ []) ∵
+      (qed 𝓛 (raw (⋆ 𝓛 (rooms 𝓤 H (env_at 𝓤 H (l ∷ ls) bs))) ∷ raw R ∷ []) ∵
       use1 𝓛 (raw S ⊛ raw (⋆ 𝓛 (rooms 𝓤 H E))) (pop 𝓛 F (rooms 𝓤 H E)) $ split ! $ move ! (1 ∷ 0 ∷ []) $ done !)
       (pass_all ls bs.1 vs fit (sep 𝓤 S R) Q
       (via 𝓤 (sep 𝓤 (⋆ 𝓛 (F ∷ filled 𝓤 H E vs)) R)
@@ -266,12 +266,12 @@ module _ {M : Type 1} {𝓤 : Ura M} {𝓛 : Logic 𝓤} {K : Type 0} {Γ : List
   open 𝓛 use {H}
 
   pub begins : K → (C : Calls 𝓤 H) (Λ : Loops 𝓤 H) (f : Fn) (vs : List Val) (Kf : Val → SProp 𝓤) → Stored 𝓤 H f.locals vs
-      → ((bs : Blocks f.locals) → Seq K 𝓛 (stored 𝓤 H (envAt 𝓤 H f.locals bs) vs ++ (‵ (dying 𝓤 H (envAt 𝓤 H f.locals bs)) ∷ Γ))
-      (runs C Λ (envAt 𝓤 H f.locals bs) f.body (at_ret (envAt 𝓤 H f.locals bs) Kf))) → Seq K 𝓛 Γ (prop (WpFn 𝓤 H C Λ f vs Kf))
+      → ((bs : Blocks f.locals) → Seq K 𝓛 (stored 𝓤 H (env_at 𝓤 H f.locals bs) vs ++ (‵ (dying 𝓤 H (env_at 𝓤 H f.locals bs)) ∷ Γ))
+      (runs C Λ (env_at 𝓤 H f.locals bs) f.body (at_ret (env_at 𝓤 H f.locals bs) Kf))) → Seq K 𝓛 Γ (prop (WpFn 𝓤 H C Λ f vs Kf))
   unfolding WpFn
   begins t C Λ f vs Kf fit k = record {
     prf = alloc_all 𝓛 f.locals (⋆ 𝓛 Γ) (λ E. params 𝓤 H E vs (Wp 𝓤 H C Λ E f.body (at_return 𝓤 H E Kf))) (λ bs.
-        let E = envAt 𝓤 H f.locals bs in
+        let E = env_at 𝓤 H f.locals bs in
         let Θ = ‵ (dying 𝓤 H E) ∷ Γ in
         via 𝓤 (sep 𝓤 (⋆ 𝓛 (rooms 𝓤 H E)) (⋆ 𝓛 Θ)) (mono_r 𝓤 (⋆ 𝓛 (rooms 𝓤 H E)) (push 𝓛 (‵ (dying 𝓤 H E)) Γ))
         (store-all 𝓛 f.locals bs vs fit (⋆ 𝓛 Θ) (Wp 𝓤 H C Λ E f.body (at_return 𝓤 H E Kf))

@@ -25,7 +25,7 @@ use Rattle.std.specs.Borrow.{RattleType}
 use Rattle.walks.specs.Loan.{Par, Lfs, Shs, Dens, Vss, row, Ends, ended, holds}
 use Rattle.walks.specs.Enter.{Plains, spelled}
 use Rattle.walks.specs.Leave.{After}
-use Rattle.walks.specs.Locals.{Blocks, Stored, envAt, dying, stored, begins, item_room, item-roomy, full, first_of, rest_of}
+use Rattle.walks.specs.Locals.{Blocks, Stored, env_at, dying, stored, begins, item_room, item-roomy, full, first_of, rest_of}
 
 -- ---- a walk as a whole
 module _ {M : Type 1} {𝓤 : Ura M} (𝓛 : Logic 𝓤) (ps : List Par) (pl : Plains 𝓛 ps) (κs : Lfs ps)
@@ -39,10 +39,10 @@ module _ {M : Type 1} {𝓤 : Ura M} (𝓛 : Logic 𝓤) (ps : List Par) (pl : P
 
   -- the first argument is `fitted … kn`
   pub starts : Stored 𝓤 H fn.locals (row ps (spelled 𝓛 ps pl a))
-      → ((bs : Blocks fn.locals) → Seq (Go {0}) 𝓛 (stored 𝓤 H (envAt 𝓤 H fn.locals bs) (row ps (spelled 𝓛 ps pl a))
-      ++ (‵ (dying 𝓤 H (envAt 𝓤 H fn.locals bs))
-      ∷ holds 𝓛 ps κs qs a (spelled 𝓛 ps pl a))) (runs C Λ (envAt 𝓤 H fn.locals bs) fn.body
-      (at_ret (envAt 𝓤 H fn.locals bs) (After 𝓛 ps κs qs a R Ens)))) → Walked
+      → ((bs : Blocks fn.locals) → Seq (Go {0}) 𝓛 (stored 𝓤 H (env_at 𝓤 H fn.locals bs) (row ps (spelled 𝓛 ps pl a))
+      ++ (‵ (dying 𝓤 H (env_at 𝓤 H fn.locals bs))
+      ∷ holds 𝓛 ps κs qs a (spelled 𝓛 ps pl a))) (runs C Λ (env_at 𝓤 H fn.locals bs) fn.body
+      (at_ret (env_at 𝓤 H fn.locals bs) (After 𝓛 ps κs qs a R Ens)))) → Walked
   starts fit k = qed 𝓛 (holds 𝓛 ps κs qs a (spelled 𝓛 ps pl a)) ∵
       begins ! C Λ fn (row ps (spelled 𝓛 ps pl a)) (After 𝓛 ps κs qs a R Ens) fit k
 

@@ -34,7 +34,7 @@ pub use Rattle.walks.specs.Loan.{Par, value, copied, viewed, lent, borrowed, Lfs
 pub use Rattle.walks.specs.PlainData.{Plain, uint_plain, bool-plain, unit-plain, struct_plain, enum_plain}
 pub use Rattle.walks.specs.Enter.{Plains, Known, spelled, fitted, met, told0, told2, said1, said2}
 pub use Rattle.walks.specs.Leave.{After, Ending, ends_with}
-pub use Rattle.walks.specs.Locals.{Blocks, envAt, dying, reborrow, respell, leaves}
+pub use Rattle.walks.specs.Locals.{Blocks, env_at, dying, reborrow, respell, leaves}
 pub use Rattle.walks.specs.Open.{opens_at, closes_at, opens-elem, closes-elem, looks-elem, shuts-elem}
 pub use Rattle.walks.specs.Statements.{var, part, big-lit, sets, resets, takes, retakes, retakes-last}
 pub use Rattle.walks.specs.Call.{Bind, at, calls-of, calls-of-last, calls-to, copies, copies-but}

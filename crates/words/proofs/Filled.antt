@@ -17,21 +17,21 @@ use lib.Bits.{bit_xor}
 use Rattle.spec.specs.Lists.{each, fold, has, over}
 use Rattle.spec.specs.Token.{Token, id_of}
 use Rattle.spec.specs.Trie.{nodes, node_count, labels}
-use Rattle.spec.specs.Layout.{pack, base_of, puts, word_of, rootAt, table_at, tableWords}
+use Rattle.spec.specs.Layout.{pack, base_of, puts, word_of, root_at, table_at, table_words}
 use Rattle.spec.specs.Valid.{Valid}
-use Rattle.spec.specs.Memory.{rootList, tableList, padded}
+use Rattle.spec.specs.Memory.{root_list, table_list, padded}
 use Rattle.laws.specs.Tests.{has-mem, mem_has}
 use Rattle.laws.specs.Nodes.{label-node}
 use Rattle.laws.specs.Numbered.{number, Fresh, place_of, place_stays, place_new}
 use Rattle.laws.specs.Chain.{kids}
 use Rattle.laws.specs.Listed.{up_length, up_at}
-use Rattle.laws.specs.Fill.{Write, write, write_all, childWrite, writes, in_table, table_filled}
+use Rattle.laws.specs.Fill.{Write, write, write_all, child_write, writes, in_table, table_filled}
 use Rattle.nodes.specs.Run.{Nodes, see}
 use Rattle.nodes.specs.Stands.{Chain, num, Tree, Roots}
 use Rattle.nodes.proofs.Chains.{final-snoc, number-pos, number_lt, kid_lt, length-map, labels-few, num-in, num-out, member}
 use Rattle.nodes.specs.declared.Node.{Node}
 use Rattle.laws.specs.Tests.{yes_case, no_case}
-use Rattle.words.specs.NodeWords.{node_word, as_root, childWrites, nodeWrites, rootWord, root_words}
+use Rattle.words.specs.NodeWords.{node_word, as_root, child_writes, node_writes, root_word, root_words}
 use Rattle.words.proofs.WordTurns.{children-end, children-on, root_none, root-at}
 
 -- the nodes of ts, each with its base
@@ -44,11 +44,11 @@ pub record Based (ts : List Token) (m : Nodes) : Type 0 where
 -- along a chain the writes are those of its numbers
 children_chain : (M : ℕ → Node) (made base : ℕ) (l : List ℕ) (f h : ℕ) → length l ≤ f → ((c : ℕ) → Mem c l → c < made)
     → Chain (λ c. (M c).next) h l
-    → childWrites M made base f h ≡ map (λ c. record { at = bit_xor base (M c).label; val = node_word (M c) (M c).label }) l
+    → child_writes M made base f h ≡ map (λ c. record { at = bit_xor base (M c).label; val = node_word (M c) (M c).label }) l
 children_chain M made base [] f h n s k = children-end M made base f h k
 children_chain M made base (c ∷ l) zero h n s k = absurd (omega arith)
 children_chain M made base (c ∷ l) (suc f) h n s k =
-    ap (childWrites M made base (suc f)) k.0 ∙ children-on M made base f c (λ z. let a = k.1 in omega arith) (s c (here refl))
+    ap (child_writes M made base (suc f)) k.0 ∙ children-on M made base f c (λ z. let a = k.1 in omega arith) (s c (here refl))
     ∙ ap (λ (r : List Write). record { at = bit_xor base (M c).label; val = node_word (M c) (M c).label } ∷ r)
     (children_chain M made base l f (M c).next (omega arith) (λ x m. s x (there m)) k.2)
 
@@ -83,13 +83,13 @@ module _ (ts : List Token) (m : Nodes) (D : Based ts m) where
   word-is p l mp = ap₂ (λ (x y : ℕ). pack x y l) (D.base p mp) (D.tree.node p mp).term
 
   pub children-is : (p : List ℕ) → Mem p ps
-      → childWrites (see m) (node_count ts) (see m (number ps p)).tail 256 (see m (number ps p)).head ≡ map (childWrite ts p) (labels ps p)
-  unfolding kids childWrite node_count
+      → child_writes (see m) (node_count ts) (see m (number ps p)).tail 256 (see m (number ps p)).head ≡ map (child_write ts p) (labels ps p)
+  unfolding kids child_write node_count
   children-is p mp =
       children_chain (see m) (1 + length ps) (see m (number ps p)).tail (kids ps p) 256 (see m (number ps p)).head
       (let a = length-map (λ (l : ℕ). number ps (p ++ (l ∷ []))) (labels ps p) in let b = labels-few D.tree p in omega arith)
       (λ c mc. let h = kid_lt ps p mc in omega arith) (D.tree.node p mp).chain
-      ∙ map-through _ (λ l. number ps (p ++ (l ∷ []))) (childWrite ts p) (labels ps p) one
+      ∙ map-through _ (λ l. number ps (p ++ (l ∷ []))) (child_write ts p) (labels ps p) one
     where
       one : (l : ℕ) → Mem l (labels ps p)
           → ◌≡◌ {A = Write} (record {
@@ -104,14 +104,14 @@ module _ (ts : List Token) (m : Nodes) (D : Based ts m) where
           (ap (node_word (see m (number ps (p ++ (l ∷ []))))) lab ∙ word-is (p ++ (l ∷ [])) l mc)
 
   nodes-from : (s t : List (List ℕ)) → s ++ t ≡ ps
-      → nodeWrites (see m) (node_count ts) (length t) (suc (length s)) ≡ each (λ p. map (childWrite ts p) (labels ps p)) t
-  unfolding nodeWrites each
+      → node_writes (see m) (node_count ts) (length t) (suc (length s)) ≡ each (λ p. map (child_write ts p) (labels ps p)) t
+  unfolding node_writes each
   nodes-from s [] e = refl
   nodes-from s (q ∷ t) e =
       ap₂ ◌++◌
-      (ap (λ (i : ℕ). childWrites (see m) (node_count ts) (see m i).tail 256 (see m i).head) at
+      (ap (λ (i : ℕ). child_writes (see m) (node_count ts) (see m i).tail 256 (see m i).head) at
       ∙ children-is q (subst (λ (z : List (List ℕ)). Mem q z) e (mem-right s (here refl))))
-      (ap (λ (i : ℕ). nodeWrites (see m) (node_count ts) (length t) (suc i)) more
+      (ap (λ (i : ℕ). node_writes (see m) (node_count ts) (length t) (suc i)) more
       ∙ nodes-from (s ++ (q ∷ [])) t (append_assoc s (q ∷ []) t ∙ e))
     where
       at : suc (length s) ≡ number ps q
@@ -120,9 +120,9 @@ module _ (ts : List Token) (m : Nodes) (D : Based ts m) where
       more : suc (length s) ≡ length (s ++ (q ∷ []))
       more = let a = length-append s (q ∷ []) in let b : length (q ∷ []) ≡ 1 = refl in omega arith
 
-  pub nodes-are : nodeWrites (see m) (node_count ts) (node_count ts - 1) 1 ≡ writes ts
+  pub nodes-are : node_writes (see m) (node_count ts) (node_count ts - 1) 1 ≡ writes ts
   unfolding writes
-  nodes-are = ap (λ (n : ℕ). nodeWrites (see m) (node_count ts) n 1) count ∙ nodes-from [] ps refl
+  nodes-are = ap (λ (n : ℕ). node_writes (see m) (node_count ts) n 1) count ∙ nodes-from [] ps refl
     where
       count : node_count ts - 1 ≡ length ps
       count = unfold node_count in omega arith
@@ -138,45 +138,45 @@ writes_front (w ∷ ws) s t h =
     ∙ writes_front ws (set s w.at w.val) t
     (λ u mu. let a = h u (there mu) in let b = lib.ListN.length-set s w.at w.val in omega arith)
 
-pub table_padded : (ts : List Token) → Valid ts → (n : ℕ) → tableWords ts ≤ n
-    → fold write (replicate n 0) (writes ts) ≡ padded (tableList ts) n
+pub table_padded : (ts : List Token) → Valid ts → (n : ℕ) → table_words ts ≤ n
+    → fold write (replicate n 0) (writes ts) ≡ padded (table_list ts) n
 table_padded ts v n h =
     ap (λ (l : List ℕ). fold write l (writes ts))
-    (sym (replicate-append-replicate (tableWords ts) (n - tableWords ts) 0 ∙ ap (λ (k : ℕ). replicate k 0) sum))
-    ∙ writes_front (writes ts) (replicate (tableWords ts) 0) (replicate (n - tableWords ts) 0)
-    (λ w mw. let a = in_table ts v w mw in let b = length-replicate {A = ℕ} (tableWords ts) 0 in omega arith)
+    (sym (replicate-append-replicate (table_words ts) (n - table_words ts) 0 ∙ ap (λ (k : ℕ). replicate k 0) sum))
+    ∙ writes_front (writes ts) (replicate (table_words ts) 0) (replicate (n - table_words ts) 0)
+    (λ w mw. let a = in_table ts v w mw in let b = length-replicate {A = ℕ} (table_words ts) 0 in omega arith)
     ∙ ap₂ (λ (l : List ℕ) (k : ℕ). l ++ replicate (n - k) 0) (filled ts v) (sym len)
   where
-    sum : tableWords ts + (n - tableWords ts) ≡ n
+    sum : table_words ts + (n - table_words ts) ≡ n
     sum = omega arith
 
-    filled : (ts : List Token) → Valid ts → fold write (replicate (tableWords ts) 0) (writes ts) ≡ tableList ts
+    filled : (ts : List Token) → Valid ts → fold write (replicate (table_words ts) 0) (writes ts) ≡ table_list ts
     filled ts v = unfold write_all in table_filled ts v
 
-    len : length (tableList ts) ≡ tableWords ts
-    len = unfold tableList in up_length (table_at ts) (tableWords ts) 0
+    len : length (table_list ts) ≡ table_words ts
+    len = unfold table_list in up_length (table_at ts) (table_words ts) 0
 
 -- ---- the roots
 
 pub roots_over : (ts : List Token) (m : Nodes) (rs : List ℕ) → Based ts m → Roots (nodes ts) rs → 65536 ≤ length rs
-    → root_words (rootWord (see m) (node_count ts)) rs ≡ over (rootList ts) rs
+    → root_words (root_word (see m) (node_count ts)) rs ≡ over (root_list ts) rs
 unfolding root_words
 roots_over ts m rs D R h = ap₂ (λ (l : List ℕ) (k : ℕ). l ++ drop k rs)
-    (ext_get_or 0 (map f (take 65536 rs)) (rootList ts) (len1 ∙ sym len2) cell) (sym len2)
+    (ext_get_or 0 (map f (take 65536 rs)) (root_list ts) (len1 ∙ sym len2) cell) (sym len2)
   where
     ps : List (List ℕ)
     ps = nodes ts
 
     f : ℕ → ℕ
-    f = rootWord (see m) (node_count ts)
+    f = root_word (see m) (node_count ts)
 
     len1 : length (map f (take 65536 rs)) ≡ 65536
     len1 = length-map f (take 65536 rs) ∙ length-take-le 65536 rs h
 
-    len2 : length (rootList ts) ≡ 65536
-    len2 = unfold rootList in up_length (rootAt ts) 65536 0
+    len2 : length (root_list ts) ≡ 65536
+    len2 = unfold root_list in up_length (root_at ts) 65536 0
 
-    none_is : 0 ≡ rootWord (see m) (node_count ts) 0
+    none_is : 0 ≡ root_word (see m) (node_count ts) 0
     none_is = root_none (see m) (node_count ts) 0 refl
 
     at : (a b : ℕ) → Mem (a ∷ b ∷ []) ps ⊎ (Mem (a ∷ b ∷ []) ps → ⊥)
@@ -190,7 +190,7 @@ roots_over ts m rs D R h = ap₂ (λ (l : List ℕ) (k : ℕ). l ++ drop k rs)
     at a b (inr np) = ap f (num-out ps (a ∷ b ∷ []) np) ∙ sym none_is
         ∙ sym (no_case _ _ (Rattle.laws.specs.Tests.no_true _ (λ e. np (has-mem ps (a ∷ b ∷ []) e))))
 
-    cell : (i : ℕ) → i < length (map f (take 65536 rs)) → get_or (map f (take 65536 rs)) i 0 ≡ get_or (rootList ts) i 0
+    cell : (i : ℕ) → i < length (map f (take 65536 rs)) → get_or (map f (take 65536 rs)) i 0 ≡ get_or (root_list ts) i 0
     cell i hi =
         let lt : i < 65536 = omega (arith, len1) in
         let a : i / 256 < 256 = omega arith in
@@ -201,5 +201,5 @@ roots_over ts m rs D R h = ap₂ (λ (l : List ℕ) (k : ℕ). l ++ drop k rs)
         ∙ at (i / 256) (i % 256) (member ps (i / 256 ∷ i % 256 ∷ [])) ∙ sym (root-cell i lt)
       where
         root-cell : (i : ℕ) → i < 65536
-            → get_or (rootList ts) i 0 ≡ cond (has ps (i / 256 ∷ i % 256 ∷ [])) (word_of ts (i / 256 ∷ i % 256 ∷ []) zero) zero
-        root-cell i lt = unfold rootList rootAt in up_at (rootAt ts) 65536 0 i 0 lt ∙ (let z : 0 + i ≡ i = omega arith in ap (rootAt ts) z)
+            → get_or (root_list ts) i 0 ≡ cond (has ps (i / 256 ∷ i % 256 ∷ [])) (word_of ts (i / 256 ∷ i % 256 ∷ []) zero) zero
+        root-cell i lt = unfold root_list root_at in up_at (root_at ts) 65536 0 i 0 lt ∙ (let z : 0 + i ≡ i = omega arith in ap (root_at ts) z)

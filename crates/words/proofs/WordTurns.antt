@@ -17,7 +17,7 @@ use Rattle.laws.specs.Fill.{write}
 use Rattle.nodes.proofs.Chains.{length-map}
 use Rattle.nodes.specs.declared.Node.{Node}
 use Rattle.laws.specs.Tests.{yes_case, no_case}
-use Rattle.words.specs.NodeWords.{node_word, as_root, childWrites, nodeWrites, rootWord}
+use Rattle.words.specs.NodeWords.{node_word, as_root, child_writes, node_writes, root_word}
 
 -- ---- words
 
@@ -33,81 +33,81 @@ shifted base id l a b c =
 -- ---- the children of a node
 
 module _ (M : ℕ → Node) (made base : ℕ) where
-  pub children-end : (f c : ℕ) → c ≡ 0 → childWrites M made base f c ≡ []
-  unfolding childWrites
+  pub children-end : (f c : ℕ) → c ≡ 0 → child_writes M made base f c ≡ []
+  unfolding child_writes
   children-end zero c e = refl
   children-end (suc f) c e = yes_case _ _ (eq-eqb c 0 e)
 
-  pub children-out : (f c : ℕ) → made ≤ c → childWrites M made base f c ≡ []
-  unfolding childWrites
+  pub children-out : (f c : ℕ) → made ≤ c → child_writes M made base f c ≡ []
+  unfolding child_writes
   children-out zero c h = refl
   children-out (suc f) c h = go (eqb c 0)
     where
       go : (d : Bool) → cond d [] (cond (leb made c) []
-          (record { at = bit_xor base (M c).label; val = node_word (M c) (M c).label } ∷ childWrites M made base f (M c).next)) ≡ []
+          (record { at = bit_xor base (M c).label; val = node_word (M c) (M c).label } ∷ child_writes M made base f (M c).next)) ≡ []
       go true = refl
       go false = yes_case _ _ (le-leb made c h)
 
-  pub children-done : (f c : ℕ) → f ≤ 0 → childWrites M made base f c ≡ []
-  unfolding childWrites
+  pub children-done : (f c : ℕ) → f ≤ 0 → child_writes M made base f c ≡ []
+  unfolding child_writes
   children-done zero c h = refl
   children-done (suc f) c h = absurd (omega arith)
 
   pub children-on : (f c : ℕ) → (c ≡ 0 → ⊥) → c < made
-      → childWrites M made base (suc f) c ≡ record {
+      → child_writes M made base (suc f) c ≡ record {
         at = bit_xor base (M c).label;
         val = node_word (M c) (M c).label;
-      } ∷ childWrites M made base f (M c).next
-  unfolding childWrites
+      } ∷ child_writes M made base f (M c).next
+  unfolding child_writes
   children-on f c z h = no_case _ _ (ne_eqb c 0 z) ∙ no_case _ _ (lt-leb made c h)
 
   -- one turn: node n is written
   pub children-turn : (t t' : List ℕ) (f c l w : ℕ) (n : Node) → 0 < f → (c ≡ 0 → ⊥) → c < made → n ≡ M c → l ≡ n.label
       → w ≡ node_word n n.label → t' ≡ set t (bit_xor base l) w
-      → fold write t (childWrites M made base f c) ≡ fold write t' (childWrites M made base (f - 1) n.next)
+      → fold write t (child_writes M made base f c) ≡ fold write t' (child_writes M made base (f - 1) n.next)
   unfolding fold write
   children-turn t t' zero c l w n hf z h en el ew et = absurd (omega arith)
   children-turn t t' (suc f) c l w n hf z h en el ew et =
       let q : suc f - 1 ≡ f = omega arith in
       ap (fold write t) (children-on f c z h)
-      ∙ ap (λ (x : Node). fold write (set t (bit_xor base x.label) (node_word x x.label)) (childWrites M made base f x.next))
+      ∙ ap (λ (x : Node). fold write (set t (bit_xor base x.label) (node_word x x.label)) (child_writes M made base f x.next))
       (sym en)
-      ∙ ap₂ (λ (x : List ℕ) (y : ℕ). fold write x (childWrites M made base y n.next))
+      ∙ ap₂ (λ (x : List ℕ) (y : ℕ). fold write x (child_writes M made base y n.next))
       (ap₂ (λ (x y : ℕ). set t (bit_xor base x) y) (sym el) (sym ew) ∙ sym et) (sym q)
 
 -- ---- all nodes
 
 module _ (M : ℕ → Node) (made : ℕ) where
   pub nodes-turn : (t t' : List ℕ) (i b : ℕ) (n : Node) → i < made → n ≡ M i → b ≡ n.tail
-      → t' ≡ fold write t (childWrites M made b 256 n.head)
-      → fold write t (nodeWrites M made (made - i) i) ≡ fold write t' (nodeWrites M made (made - (i + 1)) (i + 1))
-  unfolding nodeWrites
+      → t' ≡ fold write t (child_writes M made b 256 n.head)
+      → fold write t (node_writes M made (made - i) i) ≡ fold write t' (node_writes M made (made - (i + 1)) (i + 1))
+  unfolding node_writes
   nodes-turn t t' i b n h en eb et =
       let q : made - i ≡ suc (made - (i + 1)) = omega arith in
       let s : suc i ≡ i + 1 = omega arith in
-      ap (λ (k : ℕ). fold write t (nodeWrites M made k i)) q
-      ∙ fold-append write t (childWrites M made (M i).tail 256 (M i).head) (nodeWrites M made (made - (i + 1)) (suc i))
-      ∙ ap (λ (x : Node). fold write (fold write t (childWrites M made x.tail 256 x.head))
-      (nodeWrites M made (made - (i + 1)) (suc i))) (sym en)
-      ∙ ap₂ (λ (x : List ℕ) (y : ℕ). fold write x (nodeWrites M made (made - (i + 1)) y))
-      (ap (λ (x : ℕ). fold write t (childWrites M made x 256 n.head)) (sym eb) ∙ sym et) s
+      ap (λ (k : ℕ). fold write t (node_writes M made k i)) q
+      ∙ fold-append write t (child_writes M made (M i).tail 256 (M i).head) (node_writes M made (made - (i + 1)) (suc i))
+      ∙ ap (λ (x : Node). fold write (fold write t (child_writes M made x.tail 256 x.head))
+      (node_writes M made (made - (i + 1)) (suc i))) (sym en)
+      ∙ ap₂ (λ (x : List ℕ) (y : ℕ). fold write x (node_writes M made (made - (i + 1)) y))
+      (ap (λ (x : ℕ). fold write t (child_writes M made x 256 n.head)) (sym eb) ∙ sym et) s
 
-  pub nodes-done : (t : List ℕ) (i : ℕ) → made ≤ i → fold write t (nodeWrites M made (made - i) i) ≡ t
-  unfolding nodeWrites fold
-  nodes-done t i h = let q : made - i ≡ 0 = omega arith in ap (λ (k : ℕ). fold write t (nodeWrites M made k i)) q
+  pub nodes-done : (t : List ℕ) (i : ℕ) → made ≤ i → fold write t (node_writes M made (made - i) i) ≡ t
+  unfolding node_writes fold
+  nodes-done t i h = let q : made - i ≡ 0 = omega arith in ap (λ (k : ℕ). fold write t (node_writes M made k i)) q
 
   -- ---- roots
 
-  pub root_none : (r : ℕ) → r ≡ 0 → 0 ≡ rootWord M made r
-  unfolding rootWord
+  pub root_none : (r : ℕ) → r ≡ 0 → 0 ≡ root_word M made r
+  unfolding root_word
   root_none r h = sym (yes_case _ _ (eq-eqb r 0 h))
 
-  pub root-out : (r : ℕ) → (r ≡ 0 → ⊥) → made ≤ r → 0 ≡ rootWord M made r
-  unfolding rootWord
+  pub root-out : (r : ℕ) → (r ≡ 0 → ⊥) → made ≤ r → 0 ≡ root_word M made r
+  unfolding root_word
   root-out r z h = sym (no_case _ _ (ne_eqb r 0 z) ∙ yes_case _ _ (le-leb made r h))
 
-  pub root-at : (r w : ℕ) (n : Node) → (r ≡ 0 → ⊥) → r < made → n ≡ M r → w ≡ as_root n → w ≡ rootWord M made r
-  unfolding rootWord
+  pub root-at : (r w : ℕ) (n : Node) → (r ≡ 0 → ⊥) → r < made → n ≡ M r → w ≡ as_root n → w ≡ root_word M made r
+  unfolding root_word
   root-at r w n z h en ew = ew ∙ ap as_root en ∙ sym (no_case _ _ (ne_eqb r 0 z) ∙ no_case _ _ (lt-leb made r h))
 
 map-append : {A B : Type 0} (f : A → B) (s t : List A) → map f (s ++ t) ≡ map f s ++ map f t

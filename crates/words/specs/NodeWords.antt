@@ -21,23 +21,23 @@ as_root n = node_word n 0
 -- M gives the nodes, `made` of them
 module _ (M : ℕ → Node) (made : ℕ) where
   -- the children along next from c, each word at base XOR label
-  unfoldable pub childWrites : ℕ → ℕ → ℕ → List Write
+  unfoldable pub child_writes : ℕ → ℕ → ℕ → List Write
   unfolding node_word
-  childWrites base zero c = []
-  childWrites base (suc f) c =
-      let r = childWrites base f (M c).next in
+  child_writes base zero c = []
+  child_writes base (suc f) c =
+      let r = child_writes base f (M c).next in
       cond (eqb c 0) [] (cond (leb made c) [] (record { at = bit_xor base (M c).label; val = node_word (M c) (M c).label } ∷ r))
 
   -- the children of n nodes from node i on
-  unfoldable pub nodeWrites : ℕ → ℕ → List Write
-  unfolding childWrites
-  nodeWrites zero i = []
-  nodeWrites (suc n) i = childWrites (M i).tail 256 (M i).head ++ nodeWrites n (suc i)
+  unfoldable pub node_writes : ℕ → ℕ → List Write
+  unfolding child_writes
+  node_writes zero i = []
+  node_writes (suc n) i = child_writes (M i).tail 256 (M i).head ++ node_writes n (suc i)
 
   -- the word of a root that holds a node's number
-  unfoldable pub rootWord : ℕ → ℕ
+  unfoldable pub root_word : ℕ → ℕ
   unfolding node_word
-  rootWord r = cond (eqb r 0) 0 (cond (leb made r) 0 (as_root (M r)))
+  root_word r = cond (eqb r 0) 0 (cond (leb made r) 0 (as_root (M r)))
 
 -- the first 65,536 roots become what f makes of them
 unfoldable pub root_words : (ℕ → ℕ) → List ℕ → List ℕ

@@ -4,7 +4,7 @@ use Prim.Native.Nat.{ℕ}
 use Rattle.spec.specs.Lists.{fold}
 use Rattle.laws.specs.Fill.{write}
 use Rattle.nodes.specs.Run.{see}
-use Rattle.words.specs.NodeWords.{node_word, childWrites}
+use Rattle.words.specs.NodeWords.{node_word, child_writes}
 use Rattle.words.proofs.WordTurns.{children-end, children-out, children-done, children-turn}
 use Rattle.packing.proofs.layout.put_children.Goals as goal
 
@@ -28,7 +28,7 @@ loop-fuel-preserved c =
     let m = see c.args.nodes.now in
     let n = c.fetch-n.result in
     let t = c.put_child.new.table in
-    ap (λ (x : ℕ). fold write t (childWrites m c.args.made c.args.base x n.next)) c.one_less-fuel.ensures
+    ap (λ (x : ℕ). fold write t (child_writes m c.args.made c.args.base x n.next)) c.one_less-fuel.ensures
     ∙ sym (children-turn m c.args.made c.args.base l.table t l.fuel l.c n.label (node_word n n.label) n c.loop-fuel-test.true
     c.if-c-eq0.false c.if-made-c.false c.fetch-n.ensures refl refl c.put_child.ensures)
     ∙ l.invariant

@@ -4,7 +4,7 @@ use Prim.Native.Nat.{ℕ, ◌-◌}
 use Rattle.spec.specs.Lists.{fold}
 use Rattle.laws.specs.Fill.{write}
 use Rattle.nodes.specs.Run.{see}
-use Rattle.words.specs.NodeWords.{nodeWrites}
+use Rattle.words.specs.NodeWords.{node_writes}
 use Rattle.words.proofs.WordTurns.{nodes-turn, nodes-done}
 use Rattle.packing.proofs.layout.put_words.Goals as goal
 
@@ -13,7 +13,7 @@ loop-i-preserved c =
     let m = see c.args.nodes.now in
     let made = c.args.made in
     let t = c.put_children.new.table in
-    ap (λ (x : ℕ). fold write t (nodeWrites m made (made - x) x)) c.after-i.ensures
+    ap (λ (x : ℕ). fold write t (node_writes m made (made - x) x)) c.after-i.ensures
     ∙ sym (nodes-turn m made c.loop-i.table t c.loop-i.i _ c.fetch-n.result c.loop-i-test.true c.fetch-n.ensures
     c.u32_to_usize.ensures c.put_children.ensures)
     ∙ c.loop-i.invariant

@@ -4,12 +4,12 @@ use Prim.Native.Nat.{◌-◌}
 use Rattle.spec.specs.Lists.{fold}
 use Rattle.laws.specs.Fill.{write}
 use Rattle.nodes.specs.Run.{see}
-use Rattle.words.specs.NodeWords.{nodeWrites}
+use Rattle.words.specs.NodeWords.{node_writes}
 use Rattle.packing.proofs.layout.put_words.Given as goal
 
 abbrev pub invariant-loop-i : goal.invariant-loop-i
-invariant-loop-i l = fold write l.table (nodeWrites (see l.nodes) l.made (l.made - l.i) l.i)
-    ≡ fold write l.initial.table (nodeWrites (see l.nodes) l.made (l.made - 1) 1)
+invariant-loop-i l = fold write l.table (node_writes (see l.nodes) l.made (l.made - l.i) l.i)
+    ≡ fold write l.initial.table (node_writes (see l.nodes) l.made (l.made - 1) 1)
 
 abbrev pub decreases-loop-i : goal.decreases-loop-i
 decreases-loop-i l = l.made - l.i

@@ -5,7 +5,7 @@ use Rattle.walks.specs.Prelude.{tables_of, at_ret, ◌$◌, !, by, look, init, o
 use Rattle.walks.specs.Prelude.{u64, usize, i32, Meets, triple_of, at_exit, entered, cited, Par, value, copied, viewed, lent, Lfs, Shs}
 use Rattle.walks.specs.Prelude.{Dens, Vss, Ends, Long, ended, Plains, Known, spelled, fitted, met, After, ends_with, Walked, starts}
 use Rattle.walks.specs.Prelude.{reborrow, respell, Bind, at, calls-to, calls-of-last, copies, var, part, sets, retakes-last, tests, Turn}
-use Rattle.walks.specs.Prelude.{whiles, next-turn, forgets, Blocks, envAt, leaves, told2, said1, said2, le_keeps}
+use Rattle.walks.specs.Prelude.{whiles, next-turn, forgets, Blocks, env_at, leaves, told2, said1, said2, le_keeps}
 use denote.Struct.Laws as LL
 use lib.ListN.{take}
 use Rattle.spec.specs.Memory.{memory}
@@ -113,7 +113,7 @@ module _ {M : Type 1} {𝓤 : Ura M} (𝓛 : Logic 𝓤) (mem : Memory → SProp
 
     module _ (bs : Blocks (code.function).locals) where
       abbrev En : Env 𝓤 H
-      En = envAt 𝓤 H (code.function).locals bs
+      En = env_at 𝓤 H (code.function).locals bs
 
       abbrev held : State → List (Option Val)
       held x = none ∷ some (only vss.0) ∷ some (only vss.1.0) ∷ some (only vss.1.1.0) ∷ some (only vss.1.1.1.0)
