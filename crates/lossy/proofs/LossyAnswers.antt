@@ -14,7 +14,7 @@ use Rattle.spec.specs.Answer.{Answer, whole}
 use lib.IntN.{ℤ}
 use Rattle.spec.specs.Memory.{Memory, memory, too_short}
 use Rattle.spec.specs.Encode.{refused}
-use Rattle.spec.specs.Decode.{lookup, absent, first_absent, lossy_output, decode_lossy_on}
+use Rattle.spec.specs.Decode.{lookup, first_absent, lossy_output, decode_lossy_on}
 use Rattle.decoding.specs.declared.Decoded.TheVariants.{Whole, ShortMemory, Absent, Full}
 use Rattle.decoding.specs.Answers.{Answered}
 use Rattle.decoding.specs.Measured.{tokens}
