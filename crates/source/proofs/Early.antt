@@ -11,7 +11,6 @@ use Rattle.spec.specs.Load.{Place, nowhere, vocabulary, Start, halts, goes, halt
 use Rattle.spec.specs.Load as spec
 use Rattle.source.specs.SourceAnswers.{form_of, known, is_edition, starts_with}
 use Rattle.source.specs.declared.Form.{Form}
-use Rattle.source.specs.declared.Form.TheVariants as Form
 
 -- a number that is not 0 is a refusal
 pub starts_refused : (n : ℕ) (place : Place) (rest : Start) → (n ≡ 0 → ⊥) → starts_with n place rest ≡ halts n place

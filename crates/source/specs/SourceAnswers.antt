@@ -5,11 +5,8 @@ use Rattle.spec.specs.Token.{Token}
 use Rattle.spec.specs.Load.{vocabulary, nowhere, line, offset, byte, halts, goes}
 use Rattle.spec.specs.Load as spec
 use Rattle.source.specs.declared.read.Read.{Read}
-use Rattle.source.specs.declared.read.Read.TheVariants as Read
 use Rattle.source.specs.declared.Form.{Form}
-use Rattle.source.specs.declared.Form.TheVariants as Form
 use Rattle.source.specs.declared.Place.{Place}
-use Rattle.source.specs.declared.Place.TheVariants as Place
 use Rattle.source.specs.declared.Start.{Start}
 
 -- ---- a form
