@@ -18,26 +18,24 @@ returns-then-b-eq92 c =
 pub returns-then-b-quote : goal.returns-then-b-quote
 returns-then-b-quote c =
     let a = c.args in
-    sym (piece-quote (escapes_of a.edition) a.in_bytes _ _ (drop 1 a.rest.now) c.if-b-eq92.false c.if-b-quote.true)
+    sym (piece-quote (escapes_of a.edition) a.in_bytes _ _ (drop 1 a.rest.now) c.if-b-eq92.false (omega arith))
 
 pub returns-then-b-ge128 : goal.returns-then-b-ge128
 returns-then-b-ge128 c =
     let a = c.args in
     let if1 = c.if-b-eq92 in
-    let if2 = c.if-b-quote in
-    sym (piece-not-ascii (escapes_of a.edition) a.in_bytes _ _ (drop 1 a.rest.now) if1.false if2.false
+    sym (piece-not-ascii (escapes_of a.edition) a.in_bytes _ _ (drop 1 a.rest.now) if1.false (omega arith)
     c.if-in_bytes.true (omega arith))
 
 pub returns-else-b-ge128 : goal.returns-else-b-ge128
 returns-else-b-ge128 c =
     let a = c.args in
     let if1 = c.if-b-eq92 in
-    let if2 = c.if-b-quote in
-    sym (piece-ascii (escapes_of a.edition) a.in_bytes _ _ (drop 1 a.rest.now) if1.false if2.false
+    sym (piece-ascii (escapes_of a.edition) a.in_bytes _ _ (drop 1 a.rest.now) if1.false (omega arith)
     c.if-in_bytes.true (omega arith))
 
 pub returns-else-in_bytes : goal.returns-else-in_bytes
 returns-else-in_bytes c =
     let a = c.args in
     sym (piece-any (escapes_of a.edition) a.in_bytes _ _ (drop 1 a.rest.now) c.if-b-eq92.false
-    c.if-b-quote.false c.if-in_bytes.false)
+    (omega arith) c.if-in_bytes.false)
