@@ -102,7 +102,8 @@ module _ (m : Memory) (room : ℕ) (ids : List ℕ) (k n : ℕ) (p : Passed m ro
       pub ends-full : room - n < length (lookup m (get_or ids k 0)) → Measured m room ids (Full n k)
       ends-full f =
           ends (full k) (Full n k)
-          (rw (drop-cons ids k 0 h) (decode-full m (room - n) k (get_or ids k 0) (drop (suc k) ids) (lookup m (get_or ids k 0)) refl some f))
+          (rw (drop-cons ids k 0 h)
+          (decode-full m (room - n) k (get_or ids k 0) (drop (suc k) ids) (lookup m (get_or ids k 0)) refl some f))
           refl refl refl
 
       pub passed-more : length (lookup m (get_or ids k 0)) ≤ room - n → Passed m room ids (k + 1) (n + length (lookup m (get_or ids k 0)))
@@ -115,7 +116,8 @@ module _ (m : Memory) (room : ℕ) (ids : List ℕ) (k n : ℕ) (p : Passed m ro
             rest =
                 p.rest
                 ∙ ap (λ (l : List ℕ). decoded (each (lookup m) (take k ids)) (decode_at m (room - n) k l)) (drop-cons ids k 0 h)
-                ∙ ap (decoded (each (lookup m) (take k ids))) (decode-more m (room - n) k (get_or ids k 0) (drop (suc k) ids) t refl some f)
+                ∙ ap (decoded (each (lookup m) (take k ids)))
+                (decode-more m (room - n) k (get_or ids k 0) (drop (suc k) ids) t refl some f)
                 ∙ rw (each_more (lookup m) ids k h, add-one, left, append_assoc);
           }
 
@@ -155,7 +157,8 @@ written_none m ids total before = record { joined = joined-none m ids; same = re
 module _ (m : Memory) (ids : List ℕ) (k n total : ℕ) (before after : List ℕ) (w : Written m ids k n total before after) where
   -- a token more
   pub written-more : (now : List ℕ) → k < length ids → 1 ≤ length (lookup m (get_or ids k 0)) → length now ≡ length after
-      → Placed after n (lookup m (get_or ids k 0)) total now → Written m ids (k + 1) (n + length (lookup m (get_or ids k 0))) total before now
+      → Placed after n (lookup m (get_or ids k 0)) total now
+      → Written m ids (k + 1) (n + length (lookup m (get_or ids k 0))) total before now
   written-more now h some len p = record {
     joined = joined-more m ids k n w.joined h some;
     same = len ∙ w.same;
@@ -195,8 +198,8 @@ module _ (single : List ℤ) (offsets blob roots table : List ℕ) where
       decode-full _ n k i ids (b ∷ bs) (ap (λ (f : ℕ → List ℕ). f i) lookup-same ∙ e) (omega arith) over
       ∙ sym (decode-full _ n k i ids (b ∷ bs) e (omega arith) over)
 
-  decode_at-same : (n k : ℕ) (ids : List ℕ) → decode_at (memory single offsets blob roots table) n k ids ≡ decode_at (tokens offsets blob) n
-      k ids
+  decode_at-same : (n k : ℕ) (ids : List ℕ) → decode_at (memory single offsets blob roots table) n k ids
+      ≡ decode_at (tokens offsets blob) n k ids
   unfolding decode_at
   decode_at-same n k [] = refl
   decode_at-same n k (i ∷ ids) =

@@ -11,7 +11,8 @@ use Rattle.spec.specs.Utf8.{first_bad}
 use Rattle.spec.specs.Answer.{Answer, whole}
 use Rattle.spec.specs.Memory.{Memory, too_short}
 use Rattle.spec.specs.Encode.{Output, refused}
-use Rattle.spec.specs.Decode.{DecodeEnd, complete, absent, full, decoding, decode_output, decode_on, text_answer, text_output, decode_text_on}
+use Rattle.spec.specs.Decode.{DecodeEnd, complete, absent, full, decoding, decode_output, decode_on}
+use Rattle.spec.specs.Decode.{text_answer, text_output, decode_text_on}
 use Rattle.decoding.specs.declared.Decoded.{Decoded}
 use Rattle.decoding.specs.declared.Decoded.TheVariants.{Whole, NotUtf8}
 use Rattle.decoding.specs.Answers.{answer_of, Answered}

@@ -5,7 +5,8 @@ use mathlib.Core.List.{List, [], ◌∷◌, ◌++◌}
 use Prim.Native.Nat.{ℕ, zero, suc, ◌+◌, ◌-◌, ◌≤◌, ◌<◌}
 use native.Mathlib.Omega.{arith}
 use lib.ListN.{length, take, drop, get_or, set, replicate, length-append, length-set, take-append-drop}
-use lib.Seq.{sets, sets-eq, get_or-set_same, get_or-set_other, drop-set-lt, take_at, drop_at, drop-drop, length-take-le, get_or-take, ext_get_or}
+use lib.Seq.{sets, sets-eq, get_or-set_same, get_or-set_other, drop-set-lt, take_at, drop_at, drop-drop, length-take-le}
+use lib.Seq.{get_or-take, ext_get_or}
 use Rattle.spec.specs.Lists.{up_from, over}
 use Rattle.spec.specs.Memory.{padded}
 use Rattle.laws.specs.Listed.{up_length, up_at}
@@ -30,7 +31,8 @@ module _ {A : Type 0} where
   run_in (v ∷ vs) l from (suc k) d h q =
       let p : from + suc k ≡ suc from + k = omega arith in
       let n = length-set l from v in
-      ap (λ (x : ℕ). get_or (sets (set l from v) (suc from) vs) x d) p ∙ run_in vs (set l from v) (suc from) k d (omega arith) (omega arith)
+      ap (λ (x : ℕ). get_or (sets (set l from v) (suc from) vs) x d) p
+      ∙ run_in vs (set l from v) (suc from) k d (omega arith) (omega arith)
 
   -- those behind it stay
   pub run-behind : (vs l : List A) (from n : ℕ) → from + length vs ≤ n → drop n (sets l from vs) ≡ drop n l

@@ -348,7 +348,8 @@ module _ {ts : List Token} {s : List ℤ} {os bl rs : List ℕ} {ns : Nodes} {st
       go (inl e) (inr q) =
           ap (λ (l : List ℤ). get_or l b (pos 0)) (yes_case _ _ e)
           ∙ get_or-set_other s (get_or bs 0 0) b (pos t.id) (pos 0) (eqb-false b (get_or bs 0 0) q)
-          ∙ cell ∙ ap id_or_none (sym (id_old ts t lower (b ∷ []) (λ y. eqb-false b (get_or bs 0 0) q (ap (λ (l : List ℕ). get_or l 0 0) y))))
+          ∙ cell
+          ∙ ap id_or_none (sym (id_old ts t lower (b ∷ []) (λ y. eqb-false b (get_or bs 0 0) q (ap (λ (l : List ℕ). get_or l 0 0) y))))
       go (inr e) q =
           ap (λ (l : List ℤ). get_or l b (pos 0)) (no_case _ _ e) ∙ cell
           ∙ ap id_or_none (sym (id_old ts t lower (b ∷ []) (λ y. eqb-false (length bs) 1 e (sym (ap length y)))))
@@ -446,7 +447,8 @@ counts-more ts t C r ep et em eu = record {
 }
 
 -- what a build counts
-pub counts_of_built : {ts : List Token} {s : List ℤ} {os bl rs : List ℕ} {ns : Nodes} {st : Build} → Built ts s os bl rs ns st → Counts ts st
+pub counts_of_built : {ts : List Token} {s : List ℤ} {os bl rs : List ℕ} {ns : Nodes} {st : Build} → Built ts s os bl rs ns st
+    → Counts ts st
 counts_of_built B = record { previous = B.previous; tokens = B.tokens; made = B.made; used = B.used }
 
 -- no room even for node 0

@@ -31,7 +31,8 @@ pub offsets_run : (os os' : List ℕ) (previous id total from n : ℕ) → os' �
 offsets_run os os' previous id total from n e a b = e ∙ ap₂ (λ (x y : ℕ). sets os (x + 1) (replicate y total)) a b
 
 -- the token's bytes behind those of the others
-pub bytes_copied : (bl bl' bs : List ℕ) (used at : ℕ) → bl' ≡ paste bl at (drop 0 bs) (length bs) → at ≡ used → used + length bs ≤ length bl
+pub bytes_copied : (bl bl' bs : List ℕ) (used at : ℕ) → bl' ≡ paste bl at (drop 0 bs) (length bs) → at ≡ used
+    → used + length bs ≤ length bl
     → bl' ≡ sets bl used bs
 bytes_copied bl bl' bs used at e a h =
     e ∙ ap (λ (x : ℕ). paste bl x bs (length bs)) a ∙ copied-whole bl used bs h

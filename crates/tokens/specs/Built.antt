@@ -1,6 +1,7 @@
 -- What the vocabulary memory and the nodes hold while tokens are pushed, and what a push has to answer. Definitions only.
 -- Assumes nothing.
-use Rattle.std.specs.Prelude.{◌≡◌, ◌⊎◌, Bool, true, false, cond, List, [], ◌∷◌, ◌++◌, ℕ, ◌+◌, ◌-◌, ◌≤◌, ◌<◌, eqb, ℤ, pos, negsuc, length, take, drop, get_or, set, replicate}
+use Rattle.std.specs.Prelude.{◌≡◌, ◌⊎◌, Bool, true, false, cond, List, [], ◌∷◌, ◌++◌, ℕ, ◌+◌, ◌-◌, ◌≤◌, ◌<◌, eqb, ℤ, pos, negsuc}
+use Rattle.std.specs.Prelude.{length, take, drop, get_or, set, replicate}
 use Rattle.std.proofs.lemmas.List.Edits.{sets}
 use Rattle.spec.specs.Check.{pass, refuse}
 use Rattle.spec.specs.Token.{Token}
