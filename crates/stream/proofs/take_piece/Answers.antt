@@ -1,6 +1,7 @@
 -- `stream::take_piece` meets its contract: the run over the window in each of its cases, and behind it the rest of the piece.
 -- Assumes nothing.
-use Rattle.std.proofs.Common.{◌≡◌, List, [], ℕ, ◌+◌, ◌-◌, ◌≤◌, ◌<◌, length, take, drop, get_or, arith, sym, ap, ◌∙◌, subst, length-append, length-take}
+use Rattle.std.proofs.Common.{◌≡◌, List, [], ℕ, ◌+◌, ◌-◌, ◌≤◌, ◌<◌, length, take, drop, get_or, arith}
+use Rattle.std.proofs.Common.{sym, ap, ◌∙◌, subst, length-append, length-take}
 use lib.Seq.{length-take-le, get_or-take}
 use Rattle.spec.specs.Memory.{Memory}
 use Rattle.spec.specs.Stream.{holding, stopped_at}

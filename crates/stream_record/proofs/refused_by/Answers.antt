@@ -17,11 +17,12 @@ pub returns-then-stream-eq-STOPPED : goal.returns-then-stream-eq-STOPPED
 returns-then-stream-eq-STOPPED c piece out p o = is-again _ piece out (omega arith) (omega arith) (omega arith) (omega arith)
 
 pub returns-then-total-piece : goal.returns-then-total-piece
-returns-then-total-piece c piece out p o = is-too-many _ piece out (omega arith) (omega arith) (omega arith) (λ e. omega arith) (omega arith)
+returns-then-total-piece c piece out p o =
+    is-too-many _ piece out (omega arith) (omega arith) (omega arith) (λ e. omega arith) (omega arith)
 
 pub returns-then-out-held : goal.returns-then-out-held
-returns-then-out-held c piece out p o = is-output-short _ piece out (omega arith) (omega arith) (omega arith) (λ e. omega arith) (omega arith)
-    (omega arith)
+returns-then-out-held c piece out p o =
+    is-output-short _ piece out (omega arith) (omega arith) (omega arith) (λ e. omega arith) (omega arith) (omega arith)
 
 pub returns : goal.returns
 returns c piece out p o = is_none _ piece out (omega arith) (omega arith) (omega arith) (λ e. omega arith) (omega arith) (omega arith)
