@@ -1,4 +1,5 @@
 -- `source::early_number` meets its contract. Assumes nothing.
+use native.Mathlib.Omega.{arith}
 use Rattle.source.proofs.Early.{no-edition, an-edition}
 use Rattle.source.proofs.early_number.Goals as goal
 
@@ -9,9 +10,9 @@ returns-then-edition-eq0 c = let a = c.args in λ rest. no-edition a.form _ c.ed
 pub returns-then-short : goal.returns-then-short
 returns-then-short c =
     let a = c.args in
-    λ rest. an-edition a.form _ c.edition_of-edition.ensures a.short rest c.if-edition-eq0.false _ c.if-short.true
+    λ rest. an-edition a.form _ c.edition_of-edition.ensures a.short rest (omega arith) _ c.if-short.true
 
 pub returns : goal.returns
 returns c =
     let a = c.args in
-    λ rest. an-edition a.form _ c.edition_of-edition.ensures a.short rest c.if-edition-eq0.false _ c.if-short.false
+    λ rest. an-edition a.form _ c.edition_of-edition.ensures a.short rest (omega arith) _ c.if-short.false

@@ -12,7 +12,7 @@ pub returns-in_default : goal.returns-in_default
 returns-in_default c = record { means = id-bad _ _ _ c.in_default.ensures; short = tt }
 
 pub returns-then-wide-gt65535 : goal.returns-then-wide-gt65535
-returns-then-wide-gt65535 c = record { means = id-large _ _ _ _ c.in-Value.ensures c.if-wide-gt65535.true; short = tt }
+returns-then-wide-gt65535 c = record { means = id-large _ _ _ _ c.in-Value.ensures (omega arith); short = tt }
 
 pub returns-then-refusal-ne0 : goal.returns-then-refusal-ne0
 returns-then-refusal-ne0 c = record {
