@@ -1,4 +1,5 @@
 -- `runs::undecided_at` meets its contract: each return is a case of `undecided_on`, told by the bytes left and their walk. Assumes
+-- nothing.
 use mathlib.Core.Path.{◌∙◌}
 use native.Mathlib.Omega.{arith}
 use Rattle.spec.specs.Memory.{memory}
