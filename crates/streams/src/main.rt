@@ -80,13 +80,7 @@ fn whole_outcome(encoded: Encoded) -> Outcome {
 }
 
 // A piece or the word end, the ids handed out, and the refusal if there is one.
-fn say(
-    rt: &impl Print,
-    loud: bool,
-    piece: &[u8],
-    outcome: Outcome,
-    ids: &[u32],
-) -> io::Result<()> {
+fn say(rt: &impl Print, loud: bool, piece: &[u8], outcome: Outcome, ids: &[u32]) -> io::Result<()> {
     if !loud {
         return Ok(());
     }
@@ -353,7 +347,9 @@ fn examples(
     ids: &mut [u32],
 ) -> io::Result<()> {
     let fresh = stream_record::fresh();
-    show(rt, single, offsets, blob, roots, table, fresh, b"ab b c", ids)?;
+    show(
+        rt, single, offsets, blob, roots, table, fresh, b"ab b c", ids,
+    )?;
     show(rt, single, offsets, blob, roots, table, fresh, b"abc", ids)?;
     show(rt, single, offsets, blob, roots, table, fresh, b"c", ids)?;
     show(
@@ -367,7 +363,9 @@ fn examples(
         b"abcd a a b",
         ids,
     )?;
-    show(rt, single, offsets, blob, roots, table, fresh, b"abc x a", ids)
+    show(
+        rt, single, offsets, blob, roots, table, fresh, b"abc x a", ids,
+    )
 }
 
 // 254 bytes are held: one x more makes a token, and anything else or the end stops the stream.
@@ -421,8 +419,7 @@ fn refusals(
     show(rt, single, offsets, blob, roots, table, ended, b"a", ids)?;
     let mut few = [0u32; 2];
     show(
-        rt,
-        single, offsets, blob, roots, table, fresh, b"aab ab", &mut few,
+        rt, single, offsets, blob, roots, table, fresh, b"aab ab", &mut few,
     )?;
     show(rt, single, offsets, blob, &[], table, fresh, b"a", ids)
 }
