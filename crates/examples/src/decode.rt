@@ -59,13 +59,7 @@ fn show(
 }
 
 // Over the offsets and the blob of document 01's vocabulary V; `cells` of the offsets are lent.
-fn decode_v(
-    rt: &impl Print,
-    kind: u8,
-    cells: usize,
-    ids: &[u32],
-    out: &mut [u8],
-) -> io::Result<()>
+fn decode_v(rt: &impl Print, kind: u8, cells: usize, ids: &[u32], out: &mut [u8]) -> io::Result<()>
     requires { cells ≤ 65537 }
 {
     let mut offsets = [10u32; 65537];

@@ -25,7 +25,9 @@ pub extern "C" fn rwkv_add(
         (record_of stream.old) (spec.add piece.now out.old))
         result report.new stream.new out.old out.new }
 {
-    rwkv_tokenizer::rwkv_add(single, offsets, blob, roots, table, stream, piece, out, report)
+    rwkv_tokenizer::rwkv_add(
+        single, offsets, blob, roots, table, stream, piece, out, report,
+    )
 }
 
 // The end of the stream: the ids of the held bytes.

@@ -38,17 +38,7 @@ pub extern "C" fn rwkv_load(
         nodes.new used.new used_bases.new }
 {
     rwkv_tokenizer::rwkv_load(
-        text,
-        edition,
-        partial,
-        single,
-        offsets,
-        blob,
-        roots,
-        table,
-        nodes,
-        used,
-        used_bases,
+        text, edition, partial, single, offsets, blob, roots, table, nodes, used, used_bases,
         report,
     )
 }
