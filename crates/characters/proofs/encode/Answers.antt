@@ -6,9 +6,6 @@ use Rattle.characters.specs.CharacterBytes.{encoded_as}
 use Rattle.characters.proofs.encode.Goals as goal
 use Rattle.characters.proofs.encode.Goals.{then-c-lt55296, else-c-lt55296+else-c-lt57344+then-c-lt65536}
 
-pub encode_3-requires : goal.encode_3-requires
-encode_3-requires c = elim c.in-2048-to-55295-1.branch [ then-c-lt55296 w ↦ omega arith | else-c-lt55296+else-c-lt57344+then-c-lt65536 w ↦ omega arith ]
-
 pub returns-in-0-to-127 : goal.returns-in-0-to-127
 returns-in-0-to-127 c = c.encode_1.ensures ∙ ap encoded_as (sym (utf8-1 c.args.c (omega arith)))
 

@@ -44,7 +44,8 @@ pub loop-i-preserved : goal.loop-i-preserved
 loop-i-preserved c =
     let e = c.is_white_space.ensures ∙ ap white_space c.point_at.ensures in
     let k = blank-at c.args.line.now c.loop-i.i c.in-Char.n _ (omega arith) c.in-Char.ensures e in
-    ((char-size c.args.line.now c.loop-i.i (omega arith) c.in-Char.n (sym c.in-Char.ensures)).1, (rw c.if-not-is_white_space.false at (sym k)) ∙ c.loop-i.invariant.1)
+    let size = char-size c.args.line.now c.loop-i.i (omega arith) c.in-Char.n (sym c.in-Char.ensures) in
+    (size.1, (rw c.if-not-is_white_space.false at (sym k)) ∙ c.loop-i.invariant.1)
 
 pub returns : goal.returns
 returns c =

@@ -43,4 +43,5 @@ returns-then-line-last c =
 pub returns : goal.returns
 returns c =
     let no = sym c.is_blank.ensures ∙ c.if-is_blank.false in
-    record { means = sym (found _ no _ (sym c.in-At.ensures) _ (sym c.in-At-last_space.ensures) (omega arith) (omega arith) (omega arith)); within = (omega arith, omega arith, omega arith) }
+    let f = found _ no _ (sym c.in-At.ensures) _ (sym c.in-At-last_space.ensures) (omega arith) (omega arith) (omega arith) in
+    record { means = sym f; within = (omega arith, omega arith, omega arith) }

@@ -7,14 +7,11 @@ use native.Mathlib.Omega.{arith}
 use Rattle.lossy.proofs.LossyPasses.{as_they_are}
 use Rattle.lossy.proofs.stands.Goals as goal
 
-pub returns-then-held-gt0 : goal.returns-then-held-gt0
-returns-then-held-gt0 c = λ t. absurd t
-
 pub returns-in-WellFormed : goal.returns-in-WellFormed
 returns-in-WellFormed c =
     let a = c.args in
     let same : a.len ≡ a.start + a.len - a.start = omega arith in
-    λ _. as_they_are a.held _ (omega (arith, c.if-held-gt0.false))
+    λ _. as_they_are a.held _ (omega arith)
     (ap (λ (k : ℕ). first_bad (take k (drop a.start a.blob.now))) same
     ∙ sym c.in-WellFormed.ensures)
 
