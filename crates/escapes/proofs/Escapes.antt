@@ -165,7 +165,8 @@ module _ (escapes : Escapes) (in_b : Bool) (quote b : ℕ) (s : List ℕ) where
     pub piece-not-ascii : (b ≡ quote → ⊥) → in_b ≡ true → 0x80 ≤ b → piece_at escapes in_b quote b s ≡ none
     piece-not-ascii q e h = rw (ne_eqb b 0x5C n, ne_eqb b quote q, e, le-leb 0x80 b h)
 
-    pub piece-ascii : (b ≡ quote → ⊥) → in_b ≡ true → b < 0x80 → piece_at escapes in_b quote b s ≡ some (record { bytes = b ∷ []; more = 0 })
+    pub piece-ascii : (b ≡ quote → ⊥) → in_b ≡ true → b < 0x80
+        → piece_at escapes in_b quote b s ≡ some (record { bytes = b ∷ []; more = 0 })
     piece-ascii q e h = rw (ne_eqb b 0x5C n, ne_eqb b quote q, e, lt-leb 0x80 b h)
 
     pub piece-any : (b ≡ quote → ⊥) → in_b ≡ false → piece_at escapes in_b quote b s ≡ some (record { bytes = b ∷ []; more = 0 })

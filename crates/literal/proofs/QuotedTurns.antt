@@ -17,7 +17,8 @@ use borrow.Author.Tests.{eq-eqb, ne_eqb, le-leb, lt-leb}
 use Rattle.spec.specs.Lists.{over}
 use Rattle.spec.specs.Utf8.{◌to◌, within, utf8_of}
 use Rattle.spec.specs.Digits.{hex_run, octal_run}
-use Rattle.spec.specs.Literal.{Piece, Escapes, backslash, letter_b, letters, look_up, escaped, byte_escape, point_escape, escape, more_letters}
+use Rattle.spec.specs.Literal.{Piece, Escapes, backslash, letter_b, letters, look_up, escaped, byte_escape, point_escape, escape}
+use Rattle.spec.specs.Literal.{more_letters}
 use Rattle.spec.specs.Literal.{octal_escape, escape2, escapes_of, piece_at, Read, bad, put, piece, inside, is_quote, quoted, read, literal}
 use Rattle.characters.specs.declared.Encoded.{Encoded}
 use Rattle.characters.specs.CharacterBytes.{encoded_as}
@@ -271,7 +272,8 @@ module _ (escapes : Escapes) (in_b : Bool) (quote : ℕ) where
       goes_end h = rw (turn_end h, add-zero)
 
 -- what stands at a place, in an edition
-pub bounds : (edition : ℕ) (in_b : Bool) (quote : ℕ) (text : List ℕ) (i : ℕ) (p : Piece) → at (escapes_of edition) in_b quote text i ≡ some p
+pub bounds : (edition : ℕ) (in_b : Bool) (quote : ℕ) (text : List ℕ) (i : ℕ) (p : Piece)
+    → at (escapes_of edition) in_b quote text i ≡ some p
     → (length p.bytes ≤ suc p.more) × (p.more ≤ 9)
 bounds edition in_b quote text i p e =
     short-piece (escapes_of edition) (short_edition edition) in_b quote (get_or (drop i text) 0 0) (drop 1 (drop i text)) p e
@@ -298,7 +300,8 @@ module _ (escapes : Escapes) (in_b : Bool) (s : List ℕ) where
   unfolding quoted
   no-quote h e = rw (le-leb 2 (length s) h, e)
 
-  pub not-closed : 2 ≤ length s → is_quote (get_or s 0 0) ≡ true → (get_or s (length s - 1) 0 ≡ get_or s 0 0 → ⊥) → quoted escapes in_b s ≡ bad
+  pub not-closed : 2 ≤ length s → is_quote (get_or s 0 0) ≡ true → (get_or s (length s - 1) 0 ≡ get_or s 0 0 → ⊥)
+      → quoted escapes in_b s ≡ bad
   unfolding quoted
   not-closed h e n = rw (le-leb 2 (length s) h, e, ne_eqb (get_or s (length s - 1) 0) (get_or s 0 0) n)
 

@@ -38,7 +38,8 @@ module _ (form : Form) (edition : ℕ) (is : form_of form ≡ vocabulary edition
 
 -- the number that is told whatever a text holds, and what the text then gives
 module _ (form : spec.Form) (m : Memory) (text : List ℕ) (number : ℕ) (short : Bool) (is : short ≡ too_short m)
-    (told : (rest : Start) → starts_with number nowhere rest ≡ halt_if (not (is_edition form)) 34 (halt_if short 1 rest)) (partial : Bool) where
+    (told : (rest : Start) → starts_with number nowhere rest ≡ halt_if (not (is_edition form)) 34 (halt_if short 1 rest))
+    (partial : Bool) where
   abbrev rest : Option ℕ → Start
   rest o = in_utf8 o (goes partial text)
 
@@ -48,7 +49,8 @@ module _ (form : spec.Form) (m : Memory) (text : List ℕ) (number : ℕ) (short
       ∙ ap (λ (b : Bool). halt_if (not (is_edition form)) 34 (halt_if b 1 (rest (first_bad text)))) is
       ∙ by_form form
     where
-      by_form : (f : spec.Form) → halt_if (not (is_edition f)) 34 (halt_if (too_short m) 1 (rest (first_bad text))) ≡ start_of f partial m text
+      by_form : (f : spec.Form)
+          → halt_if (not (is_edition f)) 34 (halt_if (too_short m) 1 (rest (first_bad text))) ≡ start_of f partial m text
       by_form (vocabulary edition) = refl
 
   pub starts-number : (number ≡ 0 → ⊥) → starts_with number nowhere (goes partial text) ≡ start_of form partial m text

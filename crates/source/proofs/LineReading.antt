@@ -178,7 +178,8 @@ module _ (edition previous : ℕ) (f : Fields) where
 
     module _ (h : id ≤ 65535) where
       small : read_fields edition previous f ≡ id_rule previous id (read_token edition f id)
-      small = reads ∙ ap (λ (b : Bool). need 7 b (id_rule previous id (read_token edition f id))) (le-leb id 65535 h) ∙ (unfold need in refl)
+      small = reads ∙ ap (λ (b : Bool). need 7 b (id_rule previous id (read_token edition f id))) (le-leb id 65535 h)
+          ∙ (unfold need in refl)
 
       module _ (short r : ℕ) (is : short ≡ id) (rule : (c : Check Token) → id_rule previous short c ≡ unless r c) where
         ruled : read_fields edition previous f ≡ unless r (read_token edition f id)
