@@ -4,7 +4,7 @@ use mathlib.Core.Path.{◌≡◌, refl, sym, ap, ap₂, ◌∙◌, subst}
 use mathlib.Core.Logic.{◌⊎◌, inl, inr}
 use mathlib.Core.Bool.{Bool, false}
 use mathlib.Core.List.{List, [], ◌++◌}
-use Prim.Native.Nat.{ℕ, ◌+◌, ◌≤◌, ◌<◌}
+use Prim.Native.Nat.{ℕ, ◌≤◌, ◌<◌}
 use native.Mathlib.Omega.{arith}
 use lib.IntN.{ℤ, negsuc}
 use lib.ListN.{length, drop, replicate, length-replicate}
@@ -26,17 +26,14 @@ use Rattle.tokens.proofs.Emptying.{same_memory}
 use Rattle.tokens.proofs.PushMeans.{count_more}
 use Rattle.tokens.specs.declared.Build.{Build}
 use Rattle.ending.specs.declared.Finished.{Finished}
-use Rattle.ending.specs.declared.Finished.TheVariants as Finished
 use Rattle.source.proofs.Early.{starts_refused, starts_on, load-known}
 use Rattle.source.specs.SourceAnswers.{form_of, known, place_of, starts_with}
 use Rattle.source.specs.declared.How.{How}
-use Rattle.source.specs.declared.Place.TheVariants as Place
 use Rattle.source.specs.declared.Place.{Place}
 use Rattle.answers.specs.Answers.{loaded, count_of, WorkKept}
 use Rattle.answers.specs.LoadParts.{finished_as, left_by, RecordsAs}
 use Rattle.answers.specs.declared.taking.Taking.{Taking}
 use Rattle.answers.specs.declared.Load.{Load}
-use Rattle.answers.specs.declared.Load.TheVariants as Load
 
 -- ---- parts of memory
 

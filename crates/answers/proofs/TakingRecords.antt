@@ -26,15 +26,12 @@ use Rattle.tokens.specs.Built.{Built, Kept, Small, room_for, PushedAs}
 use Rattle.tokens.proofs.PushMeans.{count_more}
 use Rattle.tokens.specs.declared.Build.{Build}
 use Rattle.tokens.specs.declared.Pushed.{Pushed}
-use Rattle.tokens.specs.declared.Pushed.TheVariants as Pushed
 use Rattle.line.specs.Answers.{line_at}
 use Rattle.line.specs.declared.NextLine.{NextLine}
-use Rattle.line.specs.declared.NextLine.TheVariants as NextLine
 use Rattle.source.specs.SourceAnswers.{form_of, read_of, Short}
 use Rattle.source.specs.declared.Form as Source
 use Rattle.source.specs.declared.Form.TheVariants as Form
 use Rattle.source.specs.declared.read.Read.{Read}
-use Rattle.source.specs.declared.read.Read.TheVariants as Read
 use Rattle.answers.specs.Taking.{Left, Stated, Before, After, Pushable, NextAs}
 use Rattle.answers.specs.LoadParts.{begun_as, stopped_as, record_as, pushed_as, RecordsAs}
 use Rattle.answers.specs.declared.taking.Taking.{Taking}

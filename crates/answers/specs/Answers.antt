@@ -7,7 +7,6 @@ use Rattle.nodes.specs.Run.{Nodes}
 use Rattle.source.specs.SourceAnswers.{place_of}
 use Rattle.answers.specs.declared.Counts.{Counts}
 use Rattle.answers.specs.declared.Load.{Load}
-use Rattle.answers.specs.declared.Load.TheVariants as Load
 
 -- "its counts of tokens, nodes, blob bytes and table words"
 abbrev pub count_of : Counts → spec.Counts

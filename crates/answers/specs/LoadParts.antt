@@ -1,5 +1,5 @@
 -- What the parts of a load give, case by case: its end, and the records of a source one by one. Definitions that repeat a function's body
--- stand here for the walks that cite them; what they come to is `RecordsAs` and, for the end, `answers` Settling. Assumes nothing.
+-- stand here for the proofs that cite them; what they come to is `RecordsAs` and, for the end, `answers` Settling. Assumes nothing.
 use Rattle.std.specs.Prelude.{◌≡◌, Bool, true, false, List, ℕ, ◌+◌, ℤ}
 use Rattle.spec.specs.Token.{Token}
 use Rattle.spec.specs.Memory.{Memory, emptied}
@@ -8,16 +8,11 @@ use Rattle.nodes.specs.Run.{Nodes}
 use Rattle.tokens.specs.Built.{Built}
 use Rattle.tokens.specs.declared.Build.{Build}
 use Rattle.ending.specs.declared.Finished.{Finished}
-use Rattle.ending.specs.declared.Finished.TheVariants as Finished
 use Rattle.tokens.specs.declared.Pushed.{Pushed}
-use Rattle.tokens.specs.declared.Pushed.TheVariants as Pushed
 use Rattle.source.specs.declared.read.Read.{Read}
-use Rattle.source.specs.declared.read.Read.TheVariants as Read
 use Rattle.source.specs.declared.Place.{Place}
-use Rattle.source.specs.declared.Place.TheVariants as Place
 use Rattle.answers.specs.declared.taking.Taking.{Taking}
 use Rattle.answers.specs.declared.Load.{Load}
-use Rattle.answers.specs.declared.Load.TheVariants as Load
 
 -- ---- the end of a load
 

@@ -6,7 +6,6 @@ use Rattle.spec.specs.Memory.{Memory, Loaded}
 use Rattle.spec.specs.Stream.{StreamRecord, Call, Called, call_on}
 use Rattle.spec.specs.Plain.{start, Reply, Follows, reply_to, replies_on}
 use Rattle.stream_record.specs.declared.Stream.{Stream}
-use Rattle.stream_record.specs.declared.Called as stream
 use Rattle.stream_record.specs.Answers.{record_of}
 use Rattle.demands.proofs.Demand3.{demand3, replies_nil, replies_cons}
 use Rattle.demands.specs.DemandTheorems.{Made, Plainly, Seen, answer_in, reply_of, Lent, Demand3Lent, Given, reply_given, ByValue}

@@ -1,5 +1,5 @@
 -- `answers::taking::read_in` meets its contract. Assumes nothing.
-use mathlib.Core.Path.{sym, ◌∙◌, subst}
+use mathlib.Core.Path.{sym, subst}
 use native.Mathlib.Omega.{arith}
 use Rattle.source.specs.SourceAnswers.{form_of}
 use Rattle.answers.specs.Taking.{NextAs}
