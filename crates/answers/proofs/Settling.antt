@@ -12,7 +12,8 @@ use lib.Seq.{drop_at}
 use Rattle.spec.specs.Lists.{over}
 use Rattle.spec.specs.Token.{Token}
 use Rattle.spec.specs.Trie.{node_count}
-use Rattle.spec.specs.Memory.{Memory, memory, too_short, single_list, offset_list, blob_bytes, root_list, table_list, padded, memory_of, emptied}
+use Rattle.spec.specs.Memory.{Memory, memory, too_short, single_list, offset_list, blob_bytes, root_list, table_list, padded, memory_of}
+use Rattle.spec.specs.Memory.{emptied}
 use Rattle.spec.specs.Load.{Room, table_room, Form, nowhere, accepted, refused, finish, load, Start, halts, goes, start_of, counts_of}
 use Rattle.spec.specs.Load.{vocabulary, turned_down, settled, load_on}
 use Rattle.spec.specs.Load as spec

@@ -15,7 +15,10 @@ Left form partial r body n at ts = take_all form partial r (suc n) ts (records_i
 -- the same where record n states the token t, which is yet to be taken
 abbrev pub Stated : Form → Bool → Room → List ℕ → ℕ → ℕ → List Token → Token → Type 0
 Stated form partial r body n at ts t =
-    elim (admit r ts t) [ pass more ↦ take_all form partial r (suc n) more (records_in form (drop at body)) | refuse k ↦ refused k (line n) ]
+    elim (admit r ts t) [
+      | pass more ↦ take_all form partial r (suc n) more (records_in form (drop at body))
+      | refuse k ↦ refused k (line n)
+    ]
     ≡ load form partial r body
 
 -- before a record is read: the one before it was refused as the table has it, or what is left gives what the whole body gives

@@ -14,7 +14,8 @@ use Rattle.spec.specs.Token.{Token, joined, present}
 use Rattle.spec.specs.Scan.{scan}
 use Rattle.spec.specs.Memory.{Memory, too_short, Loaded}
 use Rattle.spec.specs.Encode.{Encoding, encoding, encode_answer, Output, encode_on}
-use Rattle.spec.specs.Decode.{lookup, Decoding, decoding, decode_output, decode_on, text_output, decode_text_on, first_absent, lossy_output}
+use Rattle.spec.specs.Decode.{lookup, Decoding, decoding, decode_output, decode_on, text_output, decode_text_on, first_absent}
+use Rattle.spec.specs.Decode.{lossy_output}
 use Rattle.spec.specs.Decode.{decode_lossy_on}
 use Rattle.spec.specs.Load.{table_room, Form, load, LoadResult, load_on}
 use Rattle.running.specs.ScanLaws.{ids_present, round_trip}

@@ -31,7 +31,8 @@ module _ (m : Memory) (pos b : ℕ) (s : List ℕ) where
   unfolding encode_at
   encode-unmatched n e = rw (e, encode_at)
 
-  pub encode-full : (i len : ℕ) → match_on m (b ∷ s) ≡ found i len → encode_at m 0 pos 0 (b ∷ s) ≡ record { ids = []; end = encode.full pos }
+  pub encode-full : (i len : ℕ) → match_on m (b ∷ s) ≡ found i len → encode_at m 0 pos 0 (b ∷ s)
+      ≡ record { ids = []; end = encode.full pos }
   unfolding encode_at
   encode-full i len e = rw (e, encode_at)
 

@@ -160,7 +160,8 @@ module _ (ts : List Token) where
   writes = each (λ p. map (child_write p) (labels (nodes ts) p)) (nodes ts)
 
   module _ (v : Valid ts) where
-    write-of : (w : Write) → Mem w writes → (p : List ℕ) × Mem p (nodes ts) × ((l : ℕ) × Mem l (labels (nodes ts) p) × (child_write p l ≡ w))
+    write-of : (w : Write) → Mem w writes → (p : List ℕ) × Mem p (nodes ts) × ((l : ℕ) × Mem l (labels (nodes ts) p)
+        × (child_write p l ≡ w))
     unfolding writes
     write-of w m =
         let a = each-find (λ (p : List ℕ). map (child_write p) (labels (nodes ts) p)) (nodes ts) m in

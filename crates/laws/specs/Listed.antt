@@ -51,7 +51,8 @@ module _ (ts : List Token) where
       where
         go : Tested (ltb i (table_words ts)) → get_or (up_from (table_at ts) (table_words ts) 0) i 0 ≡ table_at ts i
         go (inl e) =
-            let z : 0 + i ≡ i = omega arith in up_at (table_at ts) (table_words ts) 0 i 0 (ltb-true i (table_words ts) e) ∙ ap (table_at ts) z
+            let z : 0 + i ≡ i = omega arith in up_at (table_at ts) (table_words ts) 0 i 0 (ltb-true i (table_words ts) e)
+            ∙ ap (table_at ts) z
         go (inr e) =
             let h = ltb-false i (table_words ts) e in
             let k = up_length (table_at ts) (table_words ts) 0 in

@@ -215,7 +215,8 @@ module _ (ts : List Token) (v : Valid ts) where
     pub step-goes : goes (table_at ts (bit_xor (base_of (puts ts) p) b)) b ≡ has (nodes ts) (p ++ (b ∷ []))
     step-goes = go (either (has (nodes ts) (p ++ (b ∷ []))))
       where
-        go : Tested (has (nodes ts) (p ++ (b ∷ []))) → goes (table_at ts (bit_xor (base_of (puts ts) p) b)) b ≡ has (nodes ts) (p ++ (b ∷ []))
+        go : Tested (has (nodes ts) (p ++ (b ∷ []))) → goes (table_at ts (bit_xor (base_of (puts ts) p) b)) b
+            ≡ has (nodes ts) (p ++ (b ∷ []))
         go (inl e) =
             let k = has-mem (nodes ts) (p ++ (b ∷ [])) e in
             let w = step-word k in

@@ -241,7 +241,8 @@ module _ (escapes : Escapes) (to-bytes : ToBytes escapes) where
   quoted-bytes in_b s h = go (closed s)
     where
       go : (t : Bool) → Bytes (cond t (inside escapes in_b (get_or s 0 0) (take (length s - 2) (drop 1 s)) 0) bad).bytes
-      go true = inside-bytes in_b (get_or s 0 0) (take (length s - 2) (drop 1 s)) 0 (bytes_take (length s - 2) (drop 1 s) (bytes_drop 1 s h))
+      go true = inside-bytes in_b (get_or s 0 0) (take (length s - 2) (drop 1 s)) 0
+          (bytes_take (length s - 2) (drop 1 s) (bytes_drop 1 s h))
       go false = tt
 
   read-bytes : (s : List ℕ) → Bytes s → Bytes (read_with escapes s).bytes

@@ -1,5 +1,7 @@
 -- A new child, a new root and a new id keep what the memory stands for. For the proofs. Assumes nothing.
-use Rattle.std.proofs.Common.{◌≡◌, ℕ, suc, ◌+◌, ◌*◌, ◌%◌, ◌^◌, ◌<◌, ◌≤◌, true, false, cond, eqb, ◌⊎◌, List, [], ◌∷◌, ◌++◌, length, get_or, set, sym, refl, ap, ◌∙◌, subst, ap₂, inl, inr, arith, length-append, get_or-set_other, get_or-set_same, eq-eqb, ne_eqb, eqb-true}
+use Rattle.std.proofs.Common.{◌≡◌, ℕ, suc, ◌+◌, ◌*◌, ◌%◌, ◌^◌, ◌<◌, ◌≤◌, true, false, cond, eqb, ◌⊎◌, List, [], ◌∷◌, ◌++◌, length, get_or}
+use Rattle.std.proofs.Common.{set, sym, refl, ap, ◌∙◌, subst, ap₂, inl, inr, arith, length-append, get_or-set_other, get_or-set_same}
+use Rattle.std.proofs.Common.{eq-eqb, ne_eqb, eqb-true}
 use mathlib.Core.List.Memᴰ.{append_left as mem-left}
 use mathlib.Core.List.Memᴰ.{head as here}
 use mathlib.Core.List.{Memᴰ as Mem}

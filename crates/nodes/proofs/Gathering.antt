@@ -1,5 +1,7 @@
 -- The labels that a walk along a chain of children gathers, turn by turn, and that they are the node's. Assumes nothing.
-use Rattle.std.proofs.Common.{◌≡◌, ℕ, zero, suc, ◌+◌, ◌-◌, ◌<◌, ◌≤◌, Bool, true, false, cond, eqb, leb, List, [], ◌∷◌, ◌++◌, map, length, take, drop, set, sym, refl, ap, ◌∙◌, subst, ap₂, append_assoc, append-nil, arith, take-append-drop, length-take-le, drop-drop, take-suc-set, drop-set-lt, eq-eqb, ne_eqb, le-leb}
+use Rattle.std.proofs.Common.{◌≡◌, ℕ, zero, suc, ◌+◌, ◌-◌, ◌<◌, ◌≤◌, Bool, true, false, cond, eqb, leb, List, [], ◌∷◌, ◌++◌, map, length}
+use Rattle.std.proofs.Common.{take, drop, set, sym, refl, ap, ◌∙◌, subst, ap₂, append_assoc, append-nil, arith, take-append-drop}
+use Rattle.std.proofs.Common.{length-take-le, drop-drop, take-suc-set, drop-set-lt, eq-eqb, ne_eqb, le-leb}
 use mathlib.Core.List.Memᴰ.{head as here}
 use mathlib.Core.List.{Memᴰ as Mem}
 use mathlib.Core.List.Memᴰ.{tail as there}

@@ -1,5 +1,7 @@
 -- One equation for each way a definition of Insertion can go, and what insertion keeps on any memory. For the proofs. Assumes nothing.
-use Rattle.std.proofs.Common.{◌≡◌, ℕ, zero, suc, ◌+◌, ◌-◌, ◌*◌, ◌<◌, ◌≤◌, Bool, true, false, cond, not, eqb, leb, List, [], ◌∷◌, length, get_or, take, drop, set, sym, refl, ap, ◌∙◌, subst, ap₂, arith, drop_of_length-le, drop-cons, get_or-take, eq-eqb, ne_eqb, eqb-true, le-leb, leb-false, leb-true}
+use Rattle.std.proofs.Common.{◌≡◌, ℕ, zero, suc, ◌+◌, ◌-◌, ◌*◌, ◌<◌, ◌≤◌, Bool, true, false, cond, not, eqb, leb, List, [], ◌∷◌, length}
+use Rattle.std.proofs.Common.{get_or, take, drop, set, sym, refl, ap, ◌∙◌, subst, ap₂, arith, drop_of_length-le, drop-cons, get_or-take}
+use Rattle.std.proofs.Common.{eq-eqb, ne_eqb, eqb-true, le-leb, leb-false, leb-true}
 use borrow.Author.Tests.{eqb-false, lt-leb}
 use Rattle.laws.specs.Tests.{yes_case, no_case}
 use Rattle.nodes.specs.Run.{Nodes, see, set_node}

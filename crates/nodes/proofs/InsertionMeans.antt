@@ -1,7 +1,10 @@
 -- Insertion is right: where roots and nodes stand for tokens, the answer is that of the table of refusals, and afterwards they stand for
 -- the tokens with this one. `insert_means` is what the contract of `insert` cites; `stands_none` and `stands_one` are for the builder: the
 -- start, and tokens of one byte, which make no node. Assumes nothing.
-use Rattle.std.proofs.Common.{◌≡◌, ℕ, suc, ◌+◌, ◌*◌, ◌<◌, ◌≤◌, Bool, true, false, cond, not, ◌||◌, eqb, ltb, leb, ◌⊎◌, List, [], ◌∷◌, ◌++◌, length, get_or, take, drop, set, sym, refl, ap, ◌∙◌, subst, ap₂, inl, inr, append_assoc, append-nil, arith, length-append, length-take-le, drop-set-lt, ltb-true, le-ltb, lt-ltb, eq-eqb, ne_eqb, eqb-true, le-leb, leb-false, leb-true}
+use Rattle.std.proofs.Common.{◌≡◌, ℕ, suc, ◌+◌, ◌*◌, ◌<◌, ◌≤◌, Bool, true, false, cond, not, ◌||◌, eqb, ltb, leb, ◌⊎◌, List, [], ◌∷◌}
+use Rattle.std.proofs.Common.{◌++◌, length, get_or, take, drop, set, sym, refl, ap, ◌∙◌, subst, ap₂, inl, inr, append_assoc, append-nil}
+use Rattle.std.proofs.Common.{arith, length-append, length-take-le, drop-set-lt, ltb-true, le-ltb, lt-ltb, eq-eqb, ne_eqb, eqb-true}
+use Rattle.std.proofs.Common.{le-leb, leb-false, leb-true}
 use mathlib.Core.List.Memᴰ.{head as here}
 use mathlib.Core.List.Memᴰ.{tail as there}
 use mathlib.Core.List.{Memᴰ as Mem}
@@ -105,7 +108,8 @@ module _ (I : List ℕ → ℕ) (rs : List ℕ) (cap : ℕ) where
       (let a = fold_grows xs (ps ++ (q ∷ [])) in let c = length_one_more ps q in omega arith)
 
   desc-land : (l : List ℕ) (ps : List (List ℕ)) (p : List ℕ) (m : Nodes) → Bytes l → Growing ps I rs m → Mem p ps → suc (length ps) ≤ cap
-      → cap ≤ room m → Landed (fold add_new ps (extended p l)) I rs cap (p ++ l) (descend_on cap (state m (number ps p) (suc (length ps))) l)
+      → cap ≤ room m → Landed (fold add_new ps (extended p l)) I rs cap (p ++ l)
+      (descend_on cap (state m (number ps p) (suc (length ps))) l)
   unfolding extended fold descend_on
   desc-land [] ps p m hl G mp h fit =
       inl record { room-left = h; at = ap (number ps) (sym (append-nil p)); count = refl; mem = mem-cast (append-nil p) mp; growing = G }
@@ -372,7 +376,8 @@ module _ (ts : List Token) (rs : List ℕ) (m : Nodes) (S : Stands ts rs m) (cap
 
 -- ---- any bytes, two or more
 
-insert_at : (ts : List Token) (rs : List ℕ) (m : Nodes) → Stands ts rs m → (cap : ℕ) → cap ≤ room m → 65536 ≤ length rs → node_count ts ≤ cap
+insert_at : (ts : List Token) (rs : List ℕ) (m : Nodes) → Stands ts rs m → (cap : ℕ) → cap ≤ room m → 65536 ≤ length rs
+    → node_count ts ≤ cap
     → (bs : List ℕ) → 2 ≤ length bs → Bytes bs → (id : ℕ) → 1 ≤ id → id < 65536
     → Grown ts (record { id = id; bytes = bs }) cap (insert_on cap rs m (suc (length (nodes ts))) bs id).answer
     (insert_on cap rs m (suc (length (nodes ts))) bs id).roots (insert_on cap rs m (suc (length (nodes ts))) bs id).mem

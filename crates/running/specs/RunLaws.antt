@@ -146,7 +146,8 @@ run-after is r = record { ids = is ++ r.ids; stop = r.stop }
 abbrev pub scan-after : List ℕ → Scan → Scan
 scan-after is r = record { ids = is ++ r.ids; end = r.end }
 
-pub resume_from : (ts : List Token) (pos k : ℕ) (s : List ℕ) → k ≤ length s → (at : ℕ) (x : List ℕ) → (run_at ts pos k s).stop ≡ waiting at x
+pub resume_from : (ts : List Token) (pos k : ℕ) (s : List ℕ) → k ≤ length s → (at : ℕ) (x : List ℕ)
+    → (run_at ts pos k s).stop ≡ waiting at x
     → (y : List ℕ)
     → (run_at ts pos k (s ++ y) ≡ run-after (run_at ts pos k s).ids (run_at ts at 0 (x ++ y)))
     × (scan_at ts pos k (s ++ y) ≡ scan-after (run_at ts pos k s).ids (scan_at ts at 0 (x ++ y)))
@@ -177,7 +178,8 @@ resume_from ts pos zero (b ∷ s) l at x e y = go (view ts pos b s) (λ k l e. r
 -- a run that is stuck stays so whatever comes, and the scan has failed there with the same ids
 pub stuck_from : (ts : List Token) (pos k : ℕ) (s : List ℕ) → k ≤ length s → (at b : ℕ) → (run_at ts pos k s).stop ≡ stuck at b
     → (y : List ℕ)
-    → (run_at ts pos k (s ++ y) ≡ run_at ts pos k s) × (scan_at ts pos k (s ++ y) ≡ record { ids = (run_at ts pos k s).ids; end = failed at b })
+    → (run_at ts pos k (s ++ y) ≡ run_at ts pos k s)
+    × (scan_at ts pos k (s ++ y) ≡ record { ids = (run_at ts pos k s).ids; end = failed at b })
 unfolding run_at scan_at
 stuck_from ts pos k [] l at b e y = absurd (waiting≢stuck pos at b [] e)
 stuck_from ts pos (suc k) (b₀ ∷ s) l at b e y = stuck_from ts (suc pos) k s (omega arith) at b e y

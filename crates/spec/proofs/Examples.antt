@@ -47,7 +47,8 @@ vv =
 
 -- V states these, with room for 5 nodes, 10 bytes and 512 words, and not one more
 v_states : load (vocabulary 1) true (record { nodes = 5; blob = 10; table = 512 }) v_text ≡ accepted vv
-unfolding load take_all take_one records_in reading read_line read_fields id_rule read_token length_rule admit last_id finish missing and_then
+unfolding load take_all take_one records_in reading read_line read_fields id_rule read_token length_rule admit last_id finish missing
+    and_then
     given need lines fields digits literal seen node_count blob_bytes table_words
 v_states = refl
 
@@ -110,7 +111,10 @@ unfolding too_short single_list offset_list root_list
 v_long = refl
 
 encode_v : (n : ℕ) (s : List ℕ) → encode_on v_memory n s
-    ≡ record { answer = encode_answer (length (encoding v_memory n s).ids) (encoding v_memory n s).end; cells = (encoding v_memory n s).ids }
+    ≡ record {
+      answer = encode_answer (length (encoding v_memory n s).ids) (encoding v_memory n s).end;
+      cells = (encoding v_memory n s).ids;
+    }
 unfolding encode_on
 encode_v n s = rw (v_long, encode_on)
 

@@ -83,7 +83,8 @@ module _ (ts : List Token) (m : Nodes) (D : Based ts m) where
   word-is p l mp = ap₂ (λ (x y : ℕ). pack x y l) (D.base p mp) (D.tree.node p mp).term
 
   pub children-is : (p : List ℕ) → Mem p ps
-      → child_writes (see m) (node_count ts) (see m (number ps p)).tail 256 (see m (number ps p)).head ≡ map (child_write ts p) (labels ps p)
+      → child_writes (see m) (node_count ts) (see m (number ps p)).tail 256 (see m (number ps p)).head
+      ≡ map (child_write ts p) (labels ps p)
   unfolding kids child_write node_count
   children-is p mp =
       children_chain (see m) (1 + length ps) (see m (number ps p)).tail (kids ps p) 256 (see m (number ps p)).head
@@ -202,4 +203,5 @@ roots_over ts m rs D R h = ap₂ (λ (l : List ℕ) (k : ℕ). l ++ drop k rs)
       where
         root-cell : (i : ℕ) → i < 65536
             → get_or (root_list ts) i 0 ≡ cond (has ps (i / 256 ∷ i % 256 ∷ [])) (word_of ts (i / 256 ∷ i % 256 ∷ []) zero) zero
-        root-cell i lt = unfold root_list root_at in up_at (root_at ts) 65536 0 i 0 lt ∙ (let z : 0 + i ≡ i = omega arith in ap (root_at ts) z)
+        root-cell i lt = unfold root_list root_at in up_at (root_at ts) 65536 0 i 0 lt
+            ∙ (let z : 0 + i ≡ i = omega arith in ap (root_at ts) z)
