@@ -1,4 +1,4 @@
--- What tests say: those of Lists of membership, one over every number below n of each. Proofs use untruncated membership, `List-as-Memᴰ`.
+-- What tests say: those of Lists of membership, one over every number below n of each. Proofs use untruncated membership, `List.Memᴰ`.
 -- Assumes nothing.
 use Rattle.std.specs.Prelude.{◌≡◌, ◌⊎◌, Bool, ◌&&◌, ◌||◌, cond, ℕ, zero, suc, ◌≤◌, ◌<◌, eqb, length}
 use Rattle.std.proofs.Math.Path.{refl, ap}

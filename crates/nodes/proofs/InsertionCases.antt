@@ -79,7 +79,7 @@ pub child-start : (m : Nodes) (made parent b : ℕ) (n : Node) → n ≡ see m p
 unfolding child_of
 child-start m made parent b n e = ap (λ (x : Node). find (see m) made b made x.head) e
 
--- ---- linkLast
+-- ---- link_last
 
 pub last_none : (m : Nodes) (p : Node) (new : ℕ) → p.head ≡ 0 → link_last m p new ≡ m
 unfolding link_last
@@ -122,7 +122,7 @@ last_is m p l new = go (eqb p.head 0) (leb new p.tail) refl
         set-swap m p.tail new _ l ne
         ∙ ap (λ (x : Node). set_node (set_node m new l) p.tail (with_next x new)) (sym (see-other m new l p.tail ne))
 
--- ---- addChild
+-- ---- add_child
 
 pub add_is : (m m₁ m₂ m₃ : Nodes) (made parent b t : ℕ) (p n n' l p' : Node) → p ≡ see m parent → t ≡ last_child p made → n ≡ see m t
     → n' ≡ with_next n made → m₁ ≡ set_node m t n' → l ≡ leaf b → m₂ ≡ set_node m₁ made l → p' ≡ grown p made → m₃ ≡ set_node m₂ parent p'
@@ -152,7 +152,7 @@ length-add_child m made parent b =
     length-set_node (link_last (set_node m made (leaf b)) (see m parent) made) parent (grown (see m parent) made)
     ∙ length-link_last (set_node m made (leaf b)) (see m parent) made ∙ length-set_node m made (leaf b)
 
--- ---- childMade
+-- ---- child_made
 
 module _ (cap : ℕ) (m : Nodes) (made parent b c : ℕ) (is : c ≡ child_of m made parent b) where
   pub made-old : (c ≡ 0 → ⊥) → child_made cap m made parent b ≡ state m c made
@@ -191,7 +191,7 @@ made_sound cap m made parent b h k = go (eqb r 0) (leb cap made) refl (lower (om
     go true false q l =
         let z = leb-false cap made q in record { node-lt = omega arith; made-le = omega arith; len = length-add_child m made parent b }
 
--- ---- descendOn
+-- ---- descend_on
 
 pub desc_zero : (cap : ℕ) (s : State) (l : List ℕ) → s.node ≡ 0 → descend_on cap s l ≡ s
 unfolding descend_on
@@ -241,7 +241,7 @@ way_on cap l all m m' p p' k k' b h z eb ep ek on =
           (ep ∙ ap (child_made cap m p.made p.node) eb)) ∙ on.2,
     )
 
--- ---- rootMade
+-- ---- root_made
 
 module _ (cap : ℕ) (rs : List ℕ) (m : Nodes) (made at b : ℕ) where
   pub root-full : get_or rs at 0 ≡ 0 → cap ≤ made → root_made cap rs m made at b ≡ rooted rs (state m 0 made)
@@ -320,7 +320,7 @@ desc_place cap m m' p q l e inside =
     (record { node-lt = inside.0; made-le = inside.1; len = refl })) in
     let h = s.node-lt in let k = s.made-le in omega arith
 
--- ---- finishOn
+-- ---- finish_on
 
 module _ (s : State) (id : ℕ) where
   pub fin-none : s.node ≡ 0 → finish_on s id ≡ ended s.mem NoRoom
@@ -359,7 +359,7 @@ fin_is m m' n n' p id r en en' em er =
     go false true = refl
     go false false = ap (λ (x : Nodes). ended x Duplicate) (set-seen m p.node)
 
--- ---- insertOn
+-- ---- insert_on
 
 pub insert_is : (cap : ℕ) (rs : List ℕ) (m : Nodes) (made : ℕ) (bs : List ℕ) (id at : ℕ) (w : Rooted) (s : State) (d : Ended)
     → at ≡ get_or bs 0 0 * 256 + get_or bs 1 0 → w ≡ root_made cap rs m made at (get_or bs 1 0) → s ≡ descend_on cap w.st (drop 2 bs)

@@ -387,7 +387,7 @@ insert_at ts rs m S cap fit many have (a ∷ []) two hb id idl idh = absurd (ome
 insert_at ts rs m S cap fit many have (a ∷ b ∷ l) two hb id idl idh =
     right ts rs m S cap fit many have a b hb.0 hb.1.0 l hb.1.1 id idl idh
 
--- of an answer and a memory that are insertOn's
+-- of an answer and a memory that are insert_on's
 pub insert_right : (ts : List Token) (rs : List ℕ) (m : Nodes) → Stands ts rs m → (cap : ℕ) → cap ≤ room m → 65536 ≤ length rs
     → (made : ℕ) → made ≡ node_count ts → made ≤ cap → (bs : List ℕ) → 2 ≤ length bs → Bytes bs → (id : ℕ) → 1 ≤ id → id < 65536
     → (rs' : List ℕ) (m' : Nodes) (r : Inserted) → after rs' m' r ≡ insert_on cap rs m made bs id
