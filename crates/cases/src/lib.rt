@@ -1,17 +1,26 @@
 // For programs that run cases of standard input: bytes in hexadecimal and the ids that they spell, and how answers are written.
 #![tactic(auto)]
 
-ghost use Rattle.std.specs.Prelude.{◌≤◌, length};
+ghost use Rattle.std.specs.Prelude.{◌≤◌, length, IfOk};
 
 use numbers::Number;
 use std::io;
 use std::io::Read;
 
-// All of standard input.
-pub fn read_input<R: Input + Alloc>(rt: &R) -> io::Result<Vec<u8, R::A>> {
-    let mut input = Vec::new(rt.alloc());
-    rt.reader().read_to_end(&mut input)?;
-    Ok(input)
+// Standard input up to its end, or what of it fills the bytes; how many there were.
+pub fn read_full<R: Input>(rt: &R, input: &mut [u8]) -> io::Result<usize>
+    ensures { IfOk result (λ n. n ≤ length input.new) }
+{
+    let mut reader = rt.reader();
+    let mut at = 0;
+    while at < input.len() {
+        let n = reader.read(&mut input[at..])?;
+        if n == 0 {
+            return Ok(at);
+        }
+        at += n;
+    }
+    Ok(at)
 }
 
 pub fn write(rt: &impl Print, text: &[u8]) -> io::Result<()> {

@@ -120,6 +120,7 @@ fn all_cases(rt: &impl Print, input: &[u8]) -> io::Result<()> {
 }
 
 fn main(rt: HostRuntime) -> io::Result<()> {
-    let input = cases::read_input(&rt)?;
-    all_cases(&rt, &input)
+    let mut input = [0u8; 65536];
+    let n = cases::read_full(&rt, &mut input)?;
+    all_cases(&rt, &input[..n])
 }

@@ -409,7 +409,8 @@ fn write_counts(rt: &impl Print, counts: &[u64]) -> io::Result<()> {
     Ok(())
 }
 
-fn run(rt: &impl Print, input: &[u8]) -> io::Result<()> {
+fn run<R: Input + Print>(rt: &R, input: &mut [u8]) -> io::Result<()> {
+    let n = cases::read_full(rt, input)?;
     let mut bytes = [0u8; 8192];
     let mut single = [0i32; 256];
     let mut offsets = [0u32; 65537];
@@ -419,7 +420,7 @@ fn run(rt: &impl Print, input: &[u8]) -> io::Result<()> {
     let mut counts = [0u64; 35];
     all_cases(
         rt,
-        input,
+        &input[..n],
         &mut bytes,
         &mut single,
         &mut offsets,
@@ -432,6 +433,6 @@ fn run(rt: &impl Print, input: &[u8]) -> io::Result<()> {
 }
 
 fn main(rt: HostRuntime) -> io::Result<()> {
-    let input = cases::read_input(&rt)?;
-    run(&rt, &input)
+    let mut input = [0u8; 1048576];
+    run(&rt, &mut input)
 }
