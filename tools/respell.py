@@ -5,7 +5,8 @@ usage: python3 tools/respell.py            at the top of the repository, once, r
        python3 tools/respell.py --rest     after that: names with a capital inside that stand in a module or behind `as`
        python3 tools/respell.py --list     prints the names with their new spelling, and writes nothing
 
-Definitions, lemmas, fields and constructors of specs/ and proofs/: words in snake case (`tooShort` is `too_short`), a prime is an apostrophe.
+Definitions, lemmas, fields and constructors of specs/ and proofs/: words in snake case (`tooShort` is `too_short`), a prime is an
+apostrophe.
 A dash stays between two names, as in `scan-next`, that is where what stands before it is itself a name declared here; elsewhere it is an
 underscore. Types, facts and modules keep their capitals. Names of Rattle source, generated names and names of the library stay.
 """
