@@ -2,7 +2,7 @@
 -- nothing.
 use mathlib.Core.Path.{◌≡◌, refl, sym, ap, ap₂, ◌∙◌, subst}
 use mathlib.Core.Bool.{Bool, true, false, not, cond}
-use mathlib.Core.Option.{Option, none, some}
+use Rattle.std.specs.Prelude.{Option, None, Some}
 use mathlib.Core.List.{List, [], ◌∷◌, ◌++◌}
 use Prim.Native.Nat.{ℕ, suc, ◌+◌, ◌-◌, ◌≤◌, ◌<◌}
 use native.Mathlib.Omega.{arith}
@@ -39,19 +39,19 @@ use Rattle.answers.specs.declared.taking.Taking.{Taking}
 -- ---- the next record, as places in the source
 
 -- the next record, if any, from the answer of the code
-no_line : (at : ℕ) (o : Option First) → NextLine.Nothing ≡ line_at at o → o ≡ none
-no_line at none e = refl
-no_line at (some f) e = let z : ◌≡◌ {A = ℕ} 0 1 = cc in absurd (omega arith)
+no_line : (at : ℕ) (o : Option First) → NextLine.Nothing ≡ line_at at o → o ≡ None
+no_line at None e = refl
+no_line at (Some f) e = let z : ◌≡◌ {A = ℕ} 0 1 = cc in absurd (omega arith)
 
 pub record RecordFrom (at end next : ℕ) (o : Option First) : Type 0 where
   pub found : First
-  pub is : o ≡ some found
+  pub is : o ≡ Some found
   pub end_is : end ≡ at + found.size
   pub next-is : next ≡ at + found.next
 
 a-line : (at end next : ℕ) (o : Option First) → NextLine.Line end next ≡ line_at at o → RecordFrom at end next o
-a-line at end next none e = let z : ◌≡◌ {A = ℕ} 0 1 = cc in absurd (omega arith)
-a-line at end next (some f) e = record { found = f; is = refl; end_is = cc; next-is = cc }
+a-line at end next None e = let z : ◌≡◌ {A = ℕ} 0 1 = cc in absurd (omega arith)
+a-line at end next (Some f) e = record { found = f; is = refl; end_is = cc; next-is = cc }
 
 -- the next line of a text is its next record
 next-is : (form : Source.Form) (s : List ℕ) → next_line s ≡ next_in (form_of form) s
@@ -99,7 +99,7 @@ unfolding take_one
 record_read form r ts l t e = ap (λ (c : Check Token). and_then c (admit r ts)) e ∙ (unfold and_then in refl)
 
 module _ (form : Form) (partial : Bool) (r : Room) (text : List ℕ) (n at : ℕ) (ts : List Token) (h : Left form partial r text n at ts) where
-  left-none : next_in form (drop at text) ≡ none → load form partial r text ≡ finish partial r ts
+  left-none : next_in form (drop at text) ≡ None → load form partial r text ≡ finish partial r ts
   unfolding take_all
   left-none e = sym h ∙ ap (take_all form partial r (suc n) ts)
       (records_next form (drop at text) ∙ ap (λ (o : Option First). turn_in form o (drop at text)) e)

@@ -2,7 +2,7 @@
 -- character by the grammar, and stand for that code point again. Assumes nothing.
 use mathlib.Core.Path.{◌≡◌, refl, sym, subst}
 use mathlib.Core.Bool.{Bool, true, false}
-use mathlib.Core.Option.{some}
+use Rattle.std.specs.Prelude.{Some}
 use mathlib.Core.List.{List, [], ◌∷◌, ◌++◌}
 use Prim.Native.Nat.{ℕ, ◌+◌, ◌*◌, ◌/◌, ◌%◌, ◌≤◌, ◌<◌}
 use native.Mathlib.Nat.{lt_of_not-le}
@@ -36,11 +36,11 @@ stands_2 c l h = (
 )
 
 module _ (a b d low high : ℕ) (p : In (low to high) b) (q : In tail d) where
-  three : after a ≡ some ((low to high) ∷ tail ∷ []) → (s : List ℕ) → step_of (a ∷ b ∷ d ∷ s) ≡ char 3
+  three : after a ≡ Some ((low to high) ∷ tail ∷ []) → (s : List ℕ) → step_of (a ∷ b ∷ d ∷ s) ≡ char 3
   unfolding follow
   three e s = rw (step_cons a (b ∷ d ∷ s), e, inside (low to high) b p, inside tail d q)
 
-  four : (f : ℕ) → In tail f → after a ≡ some ((low to high) ∷ tail ∷ tail ∷ []) → (s : List ℕ) → step_of (a ∷ b ∷ d ∷ f ∷ s) ≡ char 4
+  four : (f : ℕ) → In tail f → after a ≡ Some ((low to high) ∷ tail ∷ tail ∷ []) → (s : List ℕ) → step_of (a ∷ b ∷ d ∷ f ∷ s) ≡ char 4
   unfolding follow
   four f r e s = rw (step_cons a (b ∷ d ∷ f ∷ s), e, inside (low to high) b p, inside tail d q, inside tail f r)
 

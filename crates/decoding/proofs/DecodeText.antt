@@ -1,7 +1,7 @@
 -- Text decoding follows from decoding to bytes. Assumes nothing.
 use mathlib.Core.Path.{◌≡◌, refl, ap, sym, ◌∙◌}
 use mathlib.Core.Bool.{Bool, true, false}
-use mathlib.Core.Option.{none, some}
+use Rattle.std.specs.Prelude.{None, Some}
 use mathlib.Core.List.{List}
 use Prim.Native.Nat.{ℕ, zero, suc, ◌≤◌}
 use native.Mathlib.Omega.{arith}
@@ -83,7 +83,7 @@ module _ (m : Memory) (n : ℕ) (ids : List ℕ) where
       text : decode_text_on m n ids ≡ text_of 0 (decode_on m n ids)
       text = text-on ∙ ap (λ (k : ℕ). text_of k (decode_on m n ids)) number
 
-      pub text-good : first_bad (take len after) ≡ none → Answered (decode_text_on m n ids) (Whole len) before after
+      pub text-good : first_bad (take len after) ≡ None → Answered (decode_text_on m n ids) (Whole len) before after
       text-good h =
           rw text
           (record {
@@ -92,7 +92,7 @@ module _ (m : Memory) (n : ℕ) (ids : List ℕ) where
             cells = d.cells;
           })
 
-      pub text-bad : (k : ℕ) → first_bad (take len after) ≡ some k → Answered (decode_text_on m n ids) (NotUtf8 len k) before after
+      pub text-bad : (k : ℕ) → first_bad (take len after) ≡ Some k → Answered (decode_text_on m n ids) (NotUtf8 len k) before after
       text-bad k h =
           rw text
           (record {

@@ -2,7 +2,7 @@
 -- replies as the plain stream does and leaves the record of the next plain stream. Assumes nothing.
 use mathlib.Core.Path.{◌≡◌, refl, sym, ◌∙◌, ap}
 use mathlib.Core.Bool.{false}
-use mathlib.Core.Option.{Option, none, some}
+use Rattle.std.specs.Prelude.{Option, None, Some}
 use mathlib.Core.List.{List, [], ◌++◌, append-nil}
 use Prim.Native.Nat.{ℕ, ◌+◌, ◌-◌}
 use native.Mathlib.Omega.{arith}
@@ -26,21 +26,21 @@ use Rattle.demands.proofs.OnTokens.{Agrees, scan-on, run_on_lem}
 -- ---- the calls on memory, case by case
 
 module _ (m : Memory) (r : StreamRecord) (c : Call) (long : too_short m ≡ false) where
-  call-refused : (a : Answer) → call_refusal r c ≡ some a → call_on m r c ≡ unchanged r a
+  call-refused : (a : Answer) → call_refusal r c ≡ Some a → call_on m r c ≡ unchanged r a
   unfolding call_on
   call-refused a e = rw (long, call_on) (rw e)
 
-  call-through : call_refusal r c ≡ none → call_on m r c ≡ goes_through m r c
+  call-through : call_refusal r c ≡ None → call_on m r c ≡ goes_through m r c
   unfolding call_on
   call-through e = rw (long, call_on) (rw e)
 
 -- "stopped: the same offset and byte again"
-stopped_refused : (total k b : ℕ) (c : Call) → call_refusal (stopped_at total k b) c ≡ some (again (stopped_at total k b))
+stopped_refused : (total k b : ℕ) (c : Call) → call_refusal (stopped_at total k b) c ≡ Some (again (stopped_at total k b))
 unfolding call_refusal
 stopped_refused total k b c = rw (le-ltb total 0 (omega arith), call_refusal)
 
 -- "26: ended"
-ended-refused : (total : ℕ) (c : Call) → call_refusal (holding ended_phase total []) c ≡ some (bare 26)
+ended-refused : (total : ℕ) (c : Call) → call_refusal (holding ended_phase total []) c ≡ Some (bare 26)
 unfolding call_refusal
 ended-refused total c = refl
 
@@ -126,7 +126,7 @@ pub record Next (m : Memory) (ts : List Token) (p : Plain) (c : Call) : Type 0 w
   pub stream : (call_on m (record_of ts p) c).stream ≡ record_of ts after
 
 next-refused : (m : Memory) (ts : List Token) (p : Plain) (c : Call) → too_short m ≡ false → Good ts p
-    → (a : Answer) → call_refusal (record_of ts p) c ≡ some a → Next m ts p c
+    → (a : Answer) → call_refusal (record_of ts p) c ≡ Some a → Next m ts p c
 next-refused m ts p c long g a e =
     let d : call_on m (record_of ts p) c ≡ unchanged (record_of ts p) a = call-refused m (record_of ts p) c long a e in
     record {
@@ -136,7 +136,7 @@ next-refused m ts p c long g a e =
       stream = ap (λ (x : Called). x.stream) d;
     }
 
-next-accepted : (m : Memory) (ts : List Token) (p : Plain) (c : Call) → too_short m ≡ false → call_refusal (record_of ts p) c ≡ none
+next-accepted : (m : Memory) (ts : List Token) (p : Plain) (c : Call) → too_short m ≡ false → call_refusal (record_of ts p) c ≡ None
     → (d : Called) → goes_through m (record_of ts p) c ≡ d → (q : Plain) → Accepts ts p c (reply_to c d) q → Good ts q → Next m ts p c
 next-accepted m ts p c long e d t q s g =
     let w : call_on m (record_of ts p) c ≡ d = call-through m (record_of ts p) c long e ∙ t in
@@ -258,7 +258,7 @@ module _ (ts : List Token) (T G out : List ℕ) (o : Open ts T G) where
 
 module _ (m : Memory) (ts : List Token) (long : too_short m ≡ false) (v : Valid ts) (agrees : Agrees m ts) where
   next-add : (T G piece out : List ℕ) (o : Open ts T G) → Bytes piece
-      → call_refusal (record_of ts (plain T G opened)) (add piece out) ≡ none → Next m ts (plain T G opened) (add piece out)
+      → call_refusal (record_of ts (plain T G opened)) (add piece out) ≡ None → Next m ts (plain T G opened) (add piece out)
   next-add T G piece out o h e = go (more ts v T G piece out o h).stop refl
     where
       go : (z : Stop) → (more ts v T G piece out o h).stop ≡ z → Next m ts (plain T G opened) (add piece out)
@@ -273,7 +273,7 @@ module _ (m : Memory) (ts : List Token) (long : too_short m ≡ false) (v : Vali
           (plain (T ++ piece) (G ++ (more ts v T G piece out o h).ids) (stopped k b))
           (add-sticks ts v T G piece out o h k b s) tt
 
-  next-end : (T G out : List ℕ) (o : Open ts T G) → call_refusal (record_of ts (plain T G opened)) (end out) ≡ none
+  next-end : (T G out : List ℕ) (o : Open ts T G) → call_refusal (record_of ts (plain T G opened)) (end out) ≡ None
       → Next m ts (plain T G opened) (end out)
   next-end T G out o e = go (last ts T G out o).end refl
     where
@@ -287,9 +287,9 @@ module _ (m : Memory) (ts : List Token) (long : too_short m ≡ false) (v : Vali
 
   next-open : (T G : List ℕ) → Open ts T G → (c : Call) → Bytes (piece_of c) → (a : Option Answer)
       → call_refusal (record_of ts (plain T G opened)) c ≡ a → Next m ts (plain T G opened) c
-  next-open T G o c h (some a) e = next-refused m ts (plain T G opened) c long o a e
-  next-open T G o (add piece out) h none e = next-add T G piece out o h e
-  next-open T G o (end out) h none e = next-end T G out o e
+  next-open T G o c h (Some a) e = next-refused m ts (plain T G opened) c long o a e
+  next-open T G o (add piece out) h None e = next-add T G piece out o h e
+  next-open T G o (end out) h None e = next-end T G out o e
 
   next-in : (T G : List ℕ) (phase : Phase) → GoodIn ts T G phase → (c : Call) → Bytes (piece_of c) → Next m ts (plain T G phase) c
   next-in T G opened o c h = next-open T G o c h (call_refusal (record_of ts (plain T G opened)) c) refl

@@ -4,7 +4,7 @@
 use mathlib.Core.Path.{◌≡◌, refl, sym, ◌∙◌, ap, subst}
 use mathlib.Core.Logic.{◌↔◌}
 use mathlib.Core.Bool.{Bool, true, false, ◌||◌}
-use mathlib.Core.Option.{Option, none, some}
+use Rattle.std.specs.Prelude.{Option, None, Some}
 use mathlib.Core.List.{List, [], ◌∷◌, ◌++◌, append_assoc, append-nil}
 use Prim.Native.Nat.{ℕ, ◌+◌, ◌≤◌}
 use native.Mathlib.Omega.{arith}
@@ -29,17 +29,17 @@ use Rattle.running.specs.FullLaws.{scan-full}
 -- ---- the ids handed out
 
 abbrev CountsNone : Option Answer → Type 0
-CountsNone none = Unit {0}
-CountsNone (some a) = a.count ≡ 0
+CountsNone None = Unit {0}
+CountsNone (Some a) = a.count ≡ 0
 
 refusals_count : (x y z w : Bool) (a : Answer) → a.count ≡ 0
     → CountsNone (elim x [
-      | true ↦ some (bare 26)
+      | true ↦ Some (bare 26)
       | false ↦ elim y [
-        | true ↦ some a
+        | true ↦ Some a
         | false ↦ elim z [
-          | true ↦ some (bare 25)
-          | false ↦ elim w [ true ↦ some (bare 24) | false ↦ none ]
+          | true ↦ Some (bare 25)
+          | false ↦ elim w [ true ↦ Some (bare 24) | false ↦ None ]
         ]
       ]
     ])
@@ -75,8 +75,8 @@ module _ (ts : List Token) where
   steps-ids p c r q = go (call_refusal (record_of ts p) c) (refusal_counts (record_of ts p) c)
     where
       go : (o : Option Answer) → CountsNone o → Either ts p c r q o → q.ids ≡ p.ids ++ ids_of r
-      go none z a = accepts-ids p c r q a
-      go (some a) z (e, f) =
+      go None z a = accepts-ids p c r q a
+      go (Some a) z (e, f) =
           let n : r.answer.count ≡ 0 = ap (λ (x : Reply). x.answer.count) e ∙ z in
           ap (λ (x : Plain). x.ids) f ∙ sym (append-nil p.ids) ∙ ap (λ (k : ℕ). p.ids ++ take k r.out) (sym n)
 
@@ -130,8 +130,8 @@ module _ (ts : List Token) (v : Valid ts) where
   known_step p c r q k = go (call_refusal (record_of ts p) c)
     where
       go : (o : Option Answer) → Either ts p c r q o → Known ts q
-      go none a = known-after c q.taken q.ids q.phase a.gains a.turns
-      go (some a) (e, f) = subst (Known ts) (sym f) k
+      go None a = known-after c q.taken q.ids q.phase a.gains a.turns
+      go (Some a) (e, f) = subst (Known ts) (sym f) k
 
   known : (p : Plain) (cs : List Call) (rs : List Reply) (q : Plain) → Known ts p → Follows ts p cs rs q → Known ts q
   known p [] rs q k (e, f) = subst (Known ts) (sym f) k
@@ -150,8 +150,8 @@ module _ (ts : List Token) where
   bytes-step p c r q b h = go (call_refusal (record_of ts p) c)
     where
       go : (o : Option Answer) → Either ts p c r q o → Bytes q.taken
-      go none a = subst Bytes (sym a.taken) (bytes_append p.taken (piece_of c) b h)
-      go (some a) (e, f) = subst (λ (x : Plain). Bytes x.taken) (sym f) b
+      go None a = subst Bytes (sym a.taken) (bytes_append p.taken (piece_of c) b h)
+      go (Some a) (e, f) = subst (λ (x : Plain). Bytes x.taken) (sym f) b
 
   bytes_taken : (p : Plain) (cs : List Call) (rs : List Reply) (q : Plain) → Bytes p.taken → BytePieces cs → Follows ts p cs rs q
       → Bytes q.taken

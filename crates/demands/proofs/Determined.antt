@@ -1,6 +1,6 @@
 -- The plain stream determines its answers: from one state and one call there is one reply and one next state. Assumes nothing.
 use mathlib.Core.Path.{◌≡◌, refl, sym, ◌∙◌, ap, subst}
-use mathlib.Core.Option.{Option, none, some}
+use Rattle.std.specs.Prelude.{Option, None, Some}
 use mathlib.Core.List.{List, [], ◌∷◌, ◌++◌}
 use Prim.Native.Nat.{ℕ}
 use lib.ListN.{length, drop}
@@ -74,8 +74,8 @@ pub determined : Determined
 determined ts v p c r r' q q' = go (call_refusal (record_of ts p) c)
   where
     go : (a : Option Answer) → Either ts p c r q a → Either ts p c r' q' a → (r ≡ r') × (q ≡ q')
-    go none s s' = (same-reply ts p c r r' q q' s s', same-plain ts p c r r' q q' s s')
-    go (some a) s s' = (s.0 ∙ sym s'.0, s.1 ∙ sym s'.1)
+    go None s s' = (same-reply ts p c r r' q q' s s', same-plain ts p c r r' q q' s s')
+    go (Some a) s s' = (s.0 ∙ sym s'.0, s.1 ∙ sym s'.1)
 
 -- and so over a list of calls
 pub follows_one : (ts : List Token) → Valid ts → (p : Plain) (cs : List Call) (rs rs' : List Reply) (q q' : Plain)

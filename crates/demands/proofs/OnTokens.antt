@@ -1,7 +1,7 @@
 -- On loaded memory the scan and the running form are those on the tokens, since matching and deciding are. Assumes nothing.
 use mathlib.Core.Path.{◌≡◌, refl, sym, ◌∙◌, ap}
 use mathlib.Core.Bool.{Bool, true, false}
-use mathlib.Core.Option.{Option, none, some}
+use Rattle.std.specs.Prelude.{Option, None, Some}
 use mathlib.Core.List.{List, [], ◌∷◌}
 use Prim.Native.Nat.{ℕ, zero, suc, pred}
 use lib.ListN.{length}
@@ -42,9 +42,9 @@ module _ (m : Memory) (ts : List Token) (a : Agrees m ts) where
     where
       go : (o : Option Token) → longest ts (b ∷ s) ≡ o → ((k : ℕ) → scan_on m (suc pos) k s ≡ scan_at ts (suc pos) k s)
           → scan_on m pos 0 (b ∷ s) ≡ scan_at ts pos 0 (b ∷ s)
-      go none e ih = scan_on-none m pos b s (match_is b s h none e) ∙ sym (scan-none ts pos b s e)
-      go (some t) e ih =
-          scan_on-some m pos b s t.id (length t.bytes) (match_is b s h (some t) e)
+      go None e ih = scan_on-none m pos b s (match_is b s h None e) ∙ sym (scan-none ts pos b s e)
+      go (Some t) e ih =
+          scan_on-some m pos b s t.id (length t.bytes) (match_is b s h (Some t) e)
           ∙ ap (scanned t.id) (ih (pred (length t.bytes)))
           ∙ sym (scan-some ts pos b s t e)
 
@@ -57,9 +57,9 @@ module _ (m : Memory) (ts : List Token) (a : Agrees m ts) where
       go : (c : Bool) → proper_prefix ts (b ∷ s) ≡ c → (o : Option Token) → longest ts (b ∷ s) ≡ o
           → ((k : ℕ) → run_on m (suc pos) k s ≡ run_at ts (suc pos) k s) → run_on m pos 0 (b ∷ s) ≡ run_at ts pos 0 (b ∷ s)
       go true c o e ih = run_on-waits m pos b s (undecided-is b s h true c) ∙ sym (run-waits ts pos b s c)
-      go false c none e ih =
-          run_on-none m pos b s (undecided-is b s h false c) (match_is b s h none e) ∙ sym (run_none ts pos b s c e)
-      go false c (some t) e ih =
-          run_on-some m pos b s t.id (length t.bytes) (undecided-is b s h false c) (match_is b s h (some t) e)
+      go false c None e ih =
+          run_on-none m pos b s (undecided-is b s h false c) (match_is b s h None e) ∙ sym (run_none ts pos b s c e)
+      go false c (Some t) e ih =
+          run_on-some m pos b s t.id (length t.bytes) (undecided-is b s h false c) (match_is b s h (Some t) e)
           ∙ ap (ran t.id) (ih (pred (length t.bytes)))
           ∙ sym (run-some ts pos b s t c e)

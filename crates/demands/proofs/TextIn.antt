@@ -1,7 +1,7 @@
 -- Text in, ids out: what loaded memory gives is what its tokens say, and an accepted text leaves loaded memory. Assumes nothing.
 use mathlib.Core.Path.{◌≡◌, refl, sym, ap, ap₂, ◌∙◌, subst}
 use mathlib.Core.Bool.{Bool, true, false}
-use mathlib.Core.Option.{none}
+use Rattle.std.specs.Prelude.{None}
 use mathlib.Core.List.{List, [], ◌∷◌, ◌++◌}
 use Prim.Native.Nat.{ℕ, suc, ◌≤◌}
 use native.Mathlib.Omega.{arith}
@@ -53,7 +53,7 @@ module _ (m : Memory) (long : too_short m ≡ false) (n : ℕ) where
   unfolding decode_text_on
   text-on ids d q = rw (long, decode_text_on) (ap (λ (x : Decoding). text_output x x.end) q)
 
-  lossy-on : (ids : List ℕ) → first_absent m 0 ids ≡ none → length (lossy (each (lookup m) ids)) ≤ n
+  lossy-on : (ids : List ℕ) → first_absent m 0 ids ≡ None → length (lossy (each (lookup m) ids)) ≤ n
       → decode_lossy_on m n ids
       ≡ record { answer = whole (length (lossy (each (lookup m) ids))); cells = lossy (each (lookup m) ids) }
   unfolding decode_lossy_on lossy_output
@@ -61,7 +61,7 @@ module _ (m : Memory) (long : too_short m ≡ false) (n : ℕ) where
 
 -- no id is absent, and the bytes found are the tokens'
 module _ {m : Memory} {ts : List Token} (L : Loaded m ts) where
-  none-absent : (ids : List ℕ) (index : ℕ) → all (present ts) ids ≡ true → first_absent m index ids ≡ none
+  none-absent : (ids : List ℕ) (index : ℕ) → all (present ts) ids ≡ true → first_absent m index ids ≡ None
   unfolding first_absent all
   none-absent [] index p = refl
   none-absent (i ∷ ids) index p =
@@ -70,8 +70,8 @@ module _ {m : Memory} {ts : List Token} (L : Loaded m ts) where
       subst (λ (bs : List ℕ). 1 ≤ length bs) (sym (looking m ts L i)) h)
       (none-absent ids (suc index) (and_r (present ts i) (all (present ts) ids) p))
     where
-      go : (bs : List ℕ) → lookup m i ≡ bs → 1 ≤ length (lookup m i) → first_absent m (suc index) ids ≡ none
-          → first_absent m index (i ∷ ids) ≡ none
+      go : (bs : List ℕ) → lookup m i ≡ bs → 1 ≤ length (lookup m i) → first_absent m (suc index) ids ≡ None
+          → first_absent m index (i ∷ ids) ≡ None
       go [] e h r = absurd (let k = ap length e in omega arith)
       go (b ∷ bs) e h r = rw (e, first_absent) r
 

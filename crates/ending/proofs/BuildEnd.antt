@@ -2,7 +2,7 @@
 use mathlib.Core.Path.{◌≡◌, refl, sym, ap, ap₂, ◌∙◌, subst}
 use mathlib.Core.Logic.{inl, inr}
 use mathlib.Core.Bool.{Bool, true, false, cond}
-use mathlib.Core.Option.{Option, none, some}
+use Rattle.std.specs.Prelude.{Option, None, Some}
 use mathlib.Core.List.{List, [], ◌∷◌}
 use Prim.Native.Nat.{ℕ, suc, ◌+◌, ◌-◌, ◌≤◌, ◌<◌}
 use native.Mathlib.Omega.{arith}
@@ -38,26 +38,26 @@ pub single_of : {ts : List Token} {s : List ℤ} {os bl rs : List ℕ} {ns : Nod
 single_of B = record { low = B.stands.low; cells = B.single }
 
 module _ (ts : List Token) (s : List ℤ) (S : SingleOf ts s) (b : ℕ) where
-  step : (n : ℕ) → missing ts (suc n) b ≡ cond (seen ts (b ∷ [])) (missing ts n (suc b)) (some b)
+  step : (n : ℕ) → missing ts (suc n) b ≡ cond (seen ts (b ∷ [])) (missing ts n (suc b)) (Some b)
   unfolding missing
   step n = refl
 
   here : b < 256 → (d : Bool) → is_taken (get_or s b (pos 0)) ≡ d
-      → missing ts (256 - b) b ≡ cond d (missing ts (256 - (b + 1)) (b + 1)) (some b)
+      → missing ts (256 - b) b ≡ cond d (missing ts (256 - (b + 1)) (b + 1)) (Some b)
   here h d e =
       let k : 256 - b ≡ suc (255 - b) = omega arith in
       let j : 255 - b ≡ 256 - (b + 1) = omega arith in
       let i : suc b ≡ b + 1 = omega arith in
       ap (λ (n : ℕ). missing ts n b) k ∙ step (255 - b)
-      ∙ ap₂ (λ (c : Bool) (o : Option ℕ). cond c o (some b)) (sym (taken-seen ts S.low s S.cells b h) ∙ e) (ap₂ (missing ts) j i)
+      ∙ ap₂ (λ (c : Bool) (o : Option ℕ). cond c o (Some b)) (sym (taken-seen ts S.low s S.cells b h) ∙ e) (ap₂ (missing ts) j i)
 
-  pub missing-here : b < 256 → is_taken (get_or s b (pos 0)) ≡ false → some b ≡ missing ts (256 - b) b
+  pub missing-here : b < 256 → is_taken (get_or s b (pos 0)) ≡ false → Some b ≡ missing ts (256 - b) b
   missing-here h e = sym (here h false e)
 
   pub missing-next : b < 256 → is_taken (get_or s b (pos 0)) ≡ true → missing ts (256 - (b + 1)) (b + 1) ≡ missing ts (256 - b) b
   missing-next h e = sym (here h true e)
 
-pub missing-end : (ts : List Token) (b : ℕ) → 256 ≤ b → none ≡ missing ts (256 - b) b
+pub missing-end : (ts : List Token) (b : ℕ) → 256 ≤ b → None ≡ missing ts (256 - b) b
 missing-end ts b h = let k : 256 - b ≡ 0 = omega arith in sym (ap (λ (n : ℕ). missing ts n b) k ∙ (unfold missing in refl))
 
 -- ---- the offsets behind the last id
@@ -108,7 +108,7 @@ module _ {ts : List Token} {s : List ℤ} {os bl rs : List ℕ} {ns : Nodes} {st
 module _ (partial : Bool) (r : Room) where
   -- the tests after the lines, of a vocabulary that has tokens
   abbrev ending : Option ℕ → List Token → Outcome
-  ending o ts = elim o [ some b ↦ refused 20 (byte b) | none ↦ cond (leb (table_words ts) r.table) (accepted ts) (refused 21 nowhere) ]
+  ending o ts = elim o [ Some b ↦ refused 20 (byte b) | None ↦ cond (leb (table_words ts) r.table) (accepted ts) (refused 21 nowhere) ]
 
   finish-none : (ts : List Token) → length ts ≡ 0 → finish partial r ts ≡ refused 19 nowhere
   unfolding finish
@@ -137,12 +137,12 @@ module _ (partial : Bool) (r : Room) where
 
       pub finished-wanting : (m : Missing) → missing_of m ≡ demanded partial (missing ts 256 0) → (b : ℕ) → m ≡ Byte b
           → As (Finished.Wanting b)
-      finished-wanting m e b k = goes (some b) (sym e ∙ ap missing_of k)
+      finished-wanting m e b k = goes (Some b) (sym e ∙ ap missing_of k)
 
-      module _ (e : demanded partial (missing ts 256 0) ≡ none) (most : ℕ) (is : r.table ≡ most)
+      module _ (e : demanded partial (missing ts 256 0) ≡ None) (most : ℕ) (is : r.table ≡ most)
           (p : Packed) (P : PackedAs ts most rs tb p rs' tb') where
         last-test : finish partial r ts ≡ cond (leb (table_words ts) most) (accepted ts) (refused 21 nowhere)
-        last-test = goes none e ∙ ap (λ (n : ℕ). cond (leb (table_words ts) n) (accepted ts) (refused 21 nowhere)) is
+        last-test = goes None e ∙ ap (λ (n : ℕ). cond (leb (table_words ts) n) (accepted ts) (refused 21 nowhere)) is
 
         finished-full : p ≡ NoRoom → As Finished.NoTable
         unfolding answer_for
@@ -166,7 +166,7 @@ module _ (partial : Bool) (r : Room) where
             go false z = let y : ◌≡◌ {A = ℕ} 0 1 = cc in absurd (omega arith)
 
       -- what follows the packing
-      pub finished_as_stated : demanded partial (missing ts 256 0) ≡ none → (most : ℕ) → r.table ≡ most → (p : Packed)
+      pub finished_as_stated : demanded partial (missing ts 256 0) ≡ None → (most : ℕ) → r.table ≡ most → (p : Packed)
           → PackedAs ts most rs tb p rs' tb' → 65537 ≤ length os → st.previous < 65536
           → os' ≡ set_offsets os st.previous 65536 st.used → (f : Finished) → f ≡ finished_of p → As f
       finished_as_stated e most is (Words n) P long small eo f ef = subst As (sym ef)

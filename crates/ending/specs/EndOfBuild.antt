@@ -1,6 +1,6 @@
 -- What a build has to answer at its end. Definitions only. Assumes nothing.
 use Rattle.std.specs.Prelude.{◌≡◌, Bool, true, false, ℕ, ◌≤◌, ℤ, length, take}
-use Rattle.std.proofs.Math.Option.{Option, none, some}
+use Rattle.std.specs.Prelude.{Option, None, Some}
 use mathlib.Core.List.{List, Memᴰ as Mem}
 use Rattle.spec.specs.Lists.{over}
 use Rattle.spec.specs.Token.{Token}
@@ -22,8 +22,8 @@ pub record SingleOf (ts : List Token) (s : List ℤ) : Type 0 where
 
 -- the byte of an answer
 abbrev pub missing_of : Missing → Option ℕ
-missing_of (Byte b) = some b
-missing_of Nothing = none
+missing_of (Byte b) = Some b
+missing_of Nothing = None
 
 -- Packed: 19 to 21 passed; offsets, roots and table are those of the tokens, the table has so many words. Else refused, by the number and
 -- the place that the table of refusals gives.

@@ -1,7 +1,9 @@
 -- One step inside the quotes, a law for each answer. Assumes nothing.
 use mathlib.Core.Path.{◌≡◌, refl, ap, ◌∙◌}
 use mathlib.Core.Bool.{Bool, true, false, cond, or-true}
-use mathlib.Core.Option.{Option, none, some, bind, or_else}
+use Rattle.std.specs.Prelude.{Option, None, Some}
+use Rattle.std.specs.Option.{option_or}
+use Rattle.spec.specs.Options.{bind}
 use mathlib.Core.List.{List, [], ◌∷◌}
 use Prim.Native.Nat.{ℕ, suc, ◌≤◌, ◌<◌}
 use native.Mathlib.Omega.{arith}
@@ -18,56 +20,56 @@ use Rattle.numbers.proofs.Numbers.{in-range}
 -- ---- a byte in two digits
 
 module _ (in_b : Bool) (s : List ℕ) where
-  pub byte-none : hex_run 2 s ≡ none → byte_escape in_b s ≡ none
+  pub byte-none : hex_run 2 s ≡ None → byte_escape in_b s ≡ None
   unfolding byte_escape
   byte-none e = rw e
 
-  pub byte-some : (v : ℕ) → hex_run 2 s ≡ some v → byte_escape in_b s ≡ some (record { bytes = cond in_b (v ∷ []) (utf8_of v); more = 3 })
+  pub byte-some : (v : ℕ) → hex_run 2 s ≡ Some v → byte_escape in_b s ≡ Some (record { bytes = cond in_b (v ∷ []) (utf8_of v); more = 3 })
   unfolding byte_escape
   byte-some v e = rw e
 
 -- ---- a code point in n digits
 
 module _ (n : ℕ) (s : List ℕ) where
-  pub point-in-bytes : point_escape n true s ≡ none
+  pub point-in-bytes : point_escape n true s ≡ None
   unfolding point_escape bind
   point-in-bytes = go (hex_run n s)
     where
-      go : (o : Option ℕ) → escaped (suc n) (bind o (λ v. cond true none (some (utf8_of v)))) ≡ none
-      go none = refl
-      go (some v) = refl
+      go : (o : Option ℕ) → escaped (suc n) (bind o (λ v. cond true None (Some (utf8_of v)))) ≡ None
+      go None = refl
+      go (Some v) = refl
 
-  pub point-none : (in_b : Bool) → hex_run n s ≡ none → point_escape n in_b s ≡ none
+  pub point-none : (in_b : Bool) → hex_run n s ≡ None → point_escape n in_b s ≡ None
   unfolding point_escape
   point-none in_b e = rw e
 
   -- a surrogate, one above the last code point, and those between
-  module _ (v : ℕ) (e : hex_run n s ≡ some v) where
-    pub point-surrogate : 0xD800 ≤ v → v ≤ 0xDFFF → point_escape n false s ≡ none
+  module _ (v : ℕ) (e : hex_run n s ≡ Some v) where
+    pub point-surrogate : 0xD800 ≤ v → v ≤ 0xDFFF → point_escape n false s ≡ None
     unfolding point_escape
     point-surrogate h k = rw (e, in-range 0xD800 0xDFFF h k)
 
-    pub point-above : 0x10FFFF < v → point_escape n false s ≡ none
+    pub point-above : 0x10FFFF < v → point_escape n false s ≡ None
     unfolding point_escape
     point-above h = rw (e, lt-ltb 0x10FFFF v h, or-true)
 
     pub point-some : Out (0xD800 to 0xDFFF) v → v ≤ 0x10FFFF → {k : ℕ} → k ≡ suc n
-        → point_escape n false s ≡ some (record { bytes = utf8_of v; more = k })
+        → point_escape n false s ≡ Some (record { bytes = utf8_of v; more = k })
     unfolding point_escape
     point-some o l q = rw (e, outside (0xD800 to 0xDFFF) v o, le-ltb 0x10FFFF v l, q)
 
 -- ---- octal
 
 module _ (s : List ℕ) (v k : ℕ) (e : record { value = v; count = k } ≡ octal_run 3 s) where
-  pub octal-string : octal_escape false s ≡ some (record { bytes = utf8_of v; more = k })
+  pub octal-string : octal_escape false s ≡ Some (record { bytes = utf8_of v; more = k })
   unfolding octal_escape
   octal-string = rw (← e)
 
-  pub octal-byte : v ≤ 0xFF → octal_escape true s ≡ some (record { bytes = v ∷ []; more = k })
+  pub octal-byte : v ≤ 0xFF → octal_escape true s ≡ Some (record { bytes = v ∷ []; more = k })
   unfolding octal_escape
   octal-byte h = rw (← e, le-ltb 0xFF v h)
 
-  pub octal_above : 0xFF < v → octal_escape true s ≡ none
+  pub octal_above : 0xFF < v → octal_escape true s ≡ None
   unfolding octal_escape
   octal_above h = rw (← e, lt-ltb 0xFF v h)
 
@@ -81,7 +83,7 @@ chosen in_b c s =
     (cond (eqb c 0x75) (point_escape 4 in_b s)
     (escaped 1 (look_up letters c)))
 
-pub escape-empty : (in_b : Bool) (s : List ℕ) → length s ≡ 0 → escape in_b s ≡ none
+pub escape-empty : (in_b : Bool) (s : List ℕ) → length s ≡ 0 → escape in_b s ≡ None
 unfolding escape
 escape-empty in_b [] e = refl
 escape-empty in_b (c ∷ s) e = absurd (omega arith)
@@ -93,7 +95,7 @@ escape-letter in_b (b ∷ s) c h e = ap (λ (z : ℕ). chosen in_b z s) e
 
 pub escape-other : (in_b : Bool) (s : List ℕ) (c : ℕ) → 0 < length s → get_or s 0 0 ≡ c
     → (c ≡ 0x6E → ⊥) → (c ≡ 0x74 → ⊥) → (c ≡ 0x72 → ⊥) → (c ≡ 0x5C → ⊥) → (c ≡ 0x27 → ⊥) → (c ≡ 0x22 → ⊥) → (c ≡ 0x30 → ⊥)
-    → (c ≡ 0x78 → ⊥) → (c ≡ 0x75 → ⊥) → escape in_b s ≡ none
+    → (c ≡ 0x78 → ⊥) → (c ≡ 0x75 → ⊥) → escape in_b s ≡ None
 unfolding chosen
 escape-other in_b s c h e n t r k a q z x u =
     escape-letter in_b s c h e
@@ -113,13 +115,13 @@ escape-other in_b s c h e n t r k a q z x u =
 
 -- the answer to a letter with the bytes behind it, and octal digits or edition 1 for all of them
 unfoldable pub chosen2 : Bool → ℕ → List ℕ → Option Piece → Option Piece → Option Piece
-unfolding more_letters look_up or_else
+unfolding more_letters look_up
 chosen2 in_b c s octal first =
     cond (within (0x30 to 0x37) c) octal
     (cond (eqb c 0x55) (point_escape 8 in_b s)
-    (or_else (escaped 1 (look_up more_letters c)) first))
+    (option_or (escaped 1 (look_up more_letters c)) first))
 
-pub escape2-empty : (in_b : Bool) (s : List ℕ) → length s ≡ 0 → escape2 in_b s ≡ none
+pub escape2-empty : (in_b : Bool) (s : List ℕ) → length s ≡ 0 → escape2 in_b s ≡ None
 unfolding escape2
 escape2-empty in_b [] e = refl
 escape2-empty in_b (c ∷ s) e = absurd (omega arith)
@@ -159,15 +161,15 @@ module _ (escapes : Escapes) (in_b : Bool) (quote b : ℕ) (s : List ℕ) where
   piece-escape e = rw (eq-eqb b 0x5C e)
 
   module _ (n : b ≡ 0x5C → ⊥) where
-    pub piece-quote : b ≡ quote → piece_at escapes in_b quote b s ≡ none
+    pub piece-quote : b ≡ quote → piece_at escapes in_b quote b s ≡ None
     piece-quote e = rw (ne_eqb b 0x5C n, eq-eqb b quote e)
 
-    pub piece-not-ascii : (b ≡ quote → ⊥) → in_b ≡ true → 0x80 ≤ b → piece_at escapes in_b quote b s ≡ none
+    pub piece-not-ascii : (b ≡ quote → ⊥) → in_b ≡ true → 0x80 ≤ b → piece_at escapes in_b quote b s ≡ None
     piece-not-ascii q e h = rw (ne_eqb b 0x5C n, ne_eqb b quote q, e, le-leb 0x80 b h)
 
     pub piece-ascii : (b ≡ quote → ⊥) → in_b ≡ true → b < 0x80
-        → piece_at escapes in_b quote b s ≡ some (record { bytes = b ∷ []; more = 0 })
+        → piece_at escapes in_b quote b s ≡ Some (record { bytes = b ∷ []; more = 0 })
     piece-ascii q e h = rw (ne_eqb b 0x5C n, ne_eqb b quote q, e, lt-leb 0x80 b h)
 
-    pub piece-any : (b ≡ quote → ⊥) → in_b ≡ false → piece_at escapes in_b quote b s ≡ some (record { bytes = b ∷ []; more = 0 })
+    pub piece-any : (b ≡ quote → ⊥) → in_b ≡ false → piece_at escapes in_b quote b s ≡ Some (record { bytes = b ∷ []; more = 0 })
     piece-any q e = rw (ne_eqb b 0x5C n, ne_eqb b quote q, e)

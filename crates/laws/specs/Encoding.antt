@@ -3,7 +3,7 @@
 use Rattle.std.specs.Prelude.{◌≡◌, Bool, true, cond, ◌&&◌, leb, take}
 use Rattle.std.proofs.Math.Path.{refl, sym, ap}
 use Rattle.std.proofs.Common.{ap₂, ◌∙◌, inl, inr, zero-add, length-append, leb-true, leb-false, le-leb}
-use Rattle.std.proofs.Math.Option.{Option, none, some}
+use Rattle.std.specs.Prelude.{Option, None, Some}
 use mathlib.Core.List.{List, [], ◌∷◌, Memᴰ as Mem}
 use Prim.Native.Nat.{ℕ, zero, suc, ◌+◌, ◌≤◌, ◌<◌, pred}
 use native.Mathlib.Omega.{arith}
@@ -97,17 +97,17 @@ module _ {m : Memory} {ts : List Token} (L : Loaded m ts) where
       go : (o : Option Token) → longest ts (b ∷ s) ≡ o → (n : ℕ) → match_on m (b ∷ s) ≡ match_of (longest ts (b ∷ s))
           → ((j i : ℕ) → encode_at m i (suc pos) j s ≡ cut ts (suc pos + j) i (scan_at ts (suc pos) j s))
           → encode_at m n pos 0 (b ∷ s) ≡ cut ts (pos + 0) n (scan_at ts pos 0 (b ∷ s))
-      go none e n q ih =
+      go None e n q ih =
           encode-unmatched m pos b s n (q ∙ ap match_of e)
           ∙ sym (ap (cut ts (pos + 0) n) (scan-none ts pos b s e) ∙ cut-room ts (pos + 0) n (nowhere pos b) (omega arith))
-      go (some t) e zero q ih =
+      go (Some t) e zero q ih =
           let z : pos + 0 + 0 ≡ pos = omega arith in
           encode-full m pos b s t.id (length t.bytes) (q ∙ ap match_of e)
           ∙ sym (ap (cut ts (pos + 0) 0) (scan-some ts pos b s t e) ∙ cut-full ts (pos + 0) 0
           (scanned t.id (scan_at ts (suc pos) (pred (length t.bytes)) s)) (omega arith)
           ∙ ap (λ (x : List ℕ). record { ids = []; end = encode.full (pos + 0 + length x) }) (joined-nil ts)
           ∙ ap (λ (x : ℕ). record { ids = []; end = encode.full x }) z)
-      go (some t) e (suc n) q ih =
+      go (Some t) e (suc n) q ih =
           encode-more m pos b s n t.id (length t.bytes) (q ∙ ap match_of e)
           ∙ ap (encoded t.id) (ih (pred (length t.bytes)) n)
           ∙ cut-more t ((longest-iff ts L.valid (b ∷ s) t).0 e).0 pos n (scan_at ts (suc pos) (pred (length t.bytes)) s)

@@ -2,7 +2,7 @@
 -- there, and all before it is UTF-8. Assumes nothing.
 use Rattle.std.specs.Prelude.{◌≡◌, refl, Bool, true, false, cond, List, [], ◌∷◌, ℕ, zero, suc, ◌+◌, ◌≤◌, ◌<◌, length, take, drop}
 use Rattle.std.proofs.Common.{sym, ap, ◌∙◌, subst, arith, length-drop, length-take-le, take-add, drop_at, drop-drop}
-use Rattle.std.proofs.Math.Option.{Option, none, some}
+use Rattle.std.specs.Prelude.{Option, None, Some}
 use Rattle.spec.specs.Utf8.{Range, within, after, Step, char, bad, cut, follow, followed, step_of, size, is_char, well_formed}
 use Rattle.spec.specs.Utf8.{first_bad_from, first_bad}
 use Rattle.laws.specs.Utf8Laws.{char_within, first-bad_zero, first-bad_nil, first-bad-char, first-bad-other}
@@ -11,19 +11,19 @@ use Rattle.laws.specs.Tests.{clash}
 
 -- ---- whether there is one
 
-pub well_formed_none : (s : List ℕ) → well_formed s ≡ true → first_bad s ≡ none
+pub well_formed_none : (s : List ℕ) → well_formed s ≡ true → first_bad s ≡ None
 well_formed_none s w = go (first_bad s) (sym w ∙ well_formed_first s)
   where
-    go : (o : Option ℕ) → true ≡ is_none o → o ≡ none
-    go none e = refl
-    go (some k) e = absurd (clash refl e)
+    go : (o : Option ℕ) → true ≡ is_none o → o ≡ None
+    go None e = refl
+    go (Some k) e = absurd (clash refl e)
 
-pub not-well_formed : (s : List ℕ) → well_formed s ≡ false → (k : ℕ) × (first_bad s ≡ some k)
+pub not-well_formed : (s : List ℕ) → well_formed s ≡ false → (k : ℕ) × (first_bad s ≡ Some k)
 not-well_formed s w = go (first_bad s) (sym w ∙ well_formed_first s)
   where
-    go : (o : Option ℕ) → false ≡ is_none o → (k : ℕ) × (o ≡ some k)
-    go none e = absurd (clash refl (sym e))
-    go (some k) e = (k, refl)
+    go : (o : Option ℕ) → false ≡ is_none o → (k : ℕ) × (o ≡ Some k)
+    go None e = absurd (clash refl (sym e))
+    go (Some k) e = (k, refl)
 
 -- ---- a character does not depend on what follows it
 
@@ -61,8 +61,8 @@ step_kept (b ∷ s) n zero e h = absurd (let z = char_within (b ∷ s) n (omega 
 step_kept (b ∷ s) n (suc k) e h = go (after b) e
   where
     go : (o : Option (List Range)) → followed o s ≡ char n → followed o (take k s) ≡ char n
-    go none e = e
-    go (some rs) e = follow-kept 1 rs s n k e (let z = follow-size 1 rs s n e in omega arith)
+    go None e = e
+    go (Some rs) e = follow-kept 1 rs s n k e (let z = follow-size 1 rs s n e in omega arith)
 
 -- ---- it is the first
 
@@ -71,9 +71,9 @@ abbrev First : List ℕ → ℕ → ℕ → Type 0
 First s i k = (j : ℕ) × (k ≡ i + j) × (j < length s) × (is_char (step_of (drop j s)) ≡ false) × (well_formed (take j s) ≡ true)
 
 -- what is bad at once
-here : (s : List ℕ) (i k : ℕ) → 0 < length s → first_bad_from i s ≡ some k → (t : Step) → step_of s ≡ t → is_char t ≡ false → First s i k
+here : (s : List ℕ) (i k : ℕ) → 0 < length s → first_bad_from i s ≡ Some k → (t : Step) → step_of s ≡ t → is_char t ≡ false → First s i k
 here s i k h e t q f =
-    let z : some i ≡ some k = sym (first-bad-other s h i t q f) ∙ e in
+    let z : Some i ≡ Some k = sym (first-bad-other s h i t q f) ∙ e in
     let y : i ≡ k = cc in
     (0, omega arith, h, ap is_char q ∙ f, well_formed_nil)
 
@@ -92,16 +92,16 @@ past s i k n h q (j, a, l, o, w) =
       well-formed-char (take (n + j) s) (omega arith) n (step_kept s n (n + j) q (omega arith)) ∙ ap well_formed rest ∙ w,
     )
 
-nil_good : (i k : ℕ) → first_bad_from i [] ≡ some k → ⊥
+nil_good : (i k : ℕ) → first_bad_from i [] ≡ Some k → ⊥
 nil_good i k e = clash refl (ap is_none (sym (first-bad_nil i) ∙ e))
 
-first-in : (f : ℕ) (s : List ℕ) → length s ≤ f → (i k : ℕ) → first_bad_from i s ≡ some k → First s i k
+first-in : (f : ℕ) (s : List ℕ) → length s ≤ f → (i k : ℕ) → first_bad_from i s ≡ Some k → First s i k
 first-in zero [] h i k e = absurd (nil_good i k e)
 first-in zero (b ∷ s) h i k e = absurd (omega arith)
 first-in (suc f) [] h i k e = absurd (nil_good i k e)
 first-in (suc f) (b ∷ s) h i k e = go (step_of (b ∷ s)) refl (λ r l i k e. first-in f r l i k e)
   where
-    go : (t : Step) → step_of (b ∷ s) ≡ t → ((r : List ℕ) → length r ≤ f → (i k : ℕ) → first_bad_from i r ≡ some k → First r i k)
+    go : (t : Step) → step_of (b ∷ s) ≡ t → ((r : List ℕ) → length r ≤ f → (i k : ℕ) → first_bad_from i r ≡ Some k → First r i k)
         → First (b ∷ s) i k
     go (char n) q ih =
         let (least, most) = char_within (b ∷ s) n (omega arith) q in
@@ -111,7 +111,7 @@ first-in (suc f) (b ∷ s) h i k e = go (step_of (b ∷ s)) refl (λ r l i k e. 
     go (bad n) q ih = here (b ∷ s) i k (omega arith) e (bad n) q refl
     go (cut n) q ih = here (b ∷ s) i k (omega arith) e (cut n) q refl
 
-pub first-bad_is_first : (s : List ℕ) (k : ℕ) → first_bad s ≡ some k
+pub first-bad_is_first : (s : List ℕ) (k : ℕ) → first_bad s ≡ Some k
     → (k < length s) × (is_char (step_of (drop k s)) ≡ false) × (well_formed (take k s) ≡ true)
 first-bad_is_first s k e =
     let (j, a, l, o, w) = first-in (length s) s (omega arith) 0 k (sym (first-bad_zero s) ∙ e) in

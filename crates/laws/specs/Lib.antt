@@ -1,5 +1,6 @@
 -- The laws of the definitions, in the order in which to read them: tests and text first, then the packed trie, then the stream.
 pub mod Tests
+pub mod OptionLaws
 pub mod Utf8Laws
 pub mod LineWalk
 pub mod LiteralLaws

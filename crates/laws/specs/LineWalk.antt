@@ -4,7 +4,8 @@ use Rattle.std.specs.Prelude.{◌≡◌, refl, Bool, true, false, cond, List, []
 use Rattle.std.specs.Prelude.{drop, get_or}
 use Rattle.std.proofs.Common.{sym, ap, ap₂, ◌∙◌, subst, append-nil, append_assoc, le_refl, arith, lt-ltb, ltb-true, length-take}
 use Rattle.std.proofs.Common.{take-take, length-take-le}
-use Rattle.std.proofs.Math.Option.{Option, none, some, none-ne-some, some-injective}
+use Rattle.std.specs.Prelude.{Option, None, Some}
+use Rattle.laws.specs.OptionLaws.{none-ne-some, some-injective}
 use Rattle.std.proofs.Math.Dec.{leb-suc-suc}
 use Rattle.std.proofs.Math.Seq.{append_snoc, drop-length, take-length}
 use Rattle.spec.specs.Line.{lf, cr, less_cr, with_lf, without_lf, last_line, lines_after, lines}
@@ -30,13 +31,13 @@ first_line n s =
 -- One turn of a walk: the first line, none if there is no text.
 unfoldable pub next_line : List ℕ → Option First
 unfolding before_lf less_cr
-next_line [] = none
-next_line (b ∷ s) = some (first_line (before_lf (b ∷ s)) (b ∷ s))
+next_line [] = None
+next_line (b ∷ s) = Some (first_line (before_lf (b ∷ s)) (b ∷ s))
 
 -- the line of a turn, and the lines of what follows it
 abbrev pub turn : Option First → List ℕ → List (List ℕ)
-turn none s = []
-turn (some f) s = take f.size s ∷ lines (drop f.next s)
+turn None s = []
+turn (Some f) s = take f.size s ∷ lines (drop f.next s)
 
 -- ── The walk gives the lines ─────────────────────────────────────────
 
@@ -118,7 +119,7 @@ lines_next (b ∷ s) = lines_after-first [] (b ∷ s) ∙ go (ltb (before_lf (b 
 
     go : (c : Bool)
         → cond c (with_lf (take n (b ∷ s)) ∷ lines (drop (suc n) (b ∷ s))) (last_line (b ∷ s))
-        ≡ turn (some (cond c
+        ≡ turn (Some (cond c
         (record { size = length (with_lf (take n (b ∷ s))); next = suc n })
         (record { size = length (without_lf (b ∷ s)); next = length (b ∷ s) }))) (b ∷ s)
     go true =
@@ -141,7 +142,7 @@ first_line-stays n s h = go (ltb n (length s)) refl
     go true q = (omega arith, ltb-true n (length s) q, let k = with_lf-le n s in omega arith)
     go false q = (h, le_refl (length s), less_cr-le s)
 
-pub next_line-stays : (s : List ℕ) (f : First) → next_line s ≡ some f → Stays f (length s)
+pub next_line-stays : (s : List ℕ) (f : First) → next_line s ≡ Some f → Stays f (length s)
 unfolding next_line
 next_line-stays [] f e = absurd (none-ne-some f e)
 next_line-stays (b ∷ s) f e =
@@ -158,8 +159,8 @@ next_in (vocabulary edition) = next_line
 
 -- the record of a turn, and the records of what follows it
 abbrev pub turn_in : Form → Option First → List ℕ → List (List ℕ)
-turn_in form none s = []
-turn_in form (some f) s = take f.size s ∷ records_in form (drop f.next s)
+turn_in form None s = []
+turn_in form (Some f) s = take f.size s ∷ records_in form (drop f.next s)
 
 -- Each turn gives the first record, and the walk goes on behind it.
 pub records_next : (form : Form) (s : List ℕ) → records_in form s ≡ turn_in form (next_in form s) s
@@ -167,9 +168,9 @@ unfolding records_in next_in
 records_next (vocabulary edition) s = lines_next s ∙ go (next_line s)
   where
     go : (o : Option First) → turn o s ≡ turn_in (vocabulary edition) o s
-    go none = refl
-    go (some f) = refl
+    go None = refl
+    go (Some f) = refl
 
-pub next-stays : (form : Form) (s : List ℕ) (f : First) → next_in form s ≡ some f → Stays f (length s)
+pub next-stays : (form : Form) (s : List ℕ) (f : First) → next_in form s ≡ Some f → Stays f (length s)
 unfolding next_in
 next-stays (vocabulary edition) s f e = next_line-stays s f e

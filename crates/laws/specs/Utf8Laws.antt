@@ -4,7 +4,7 @@ use Rattle.std.specs.Prelude.{◌≡◌, refl, Bool, true, false, ◌&&◌, cond
 use Rattle.std.specs.Prelude.{leb, length, take, drop}
 use Rattle.std.proofs.Math.Path.{ap}
 use Rattle.std.proofs.Common.{◌∙◌, subst, not-suc-le-zero}
-use Rattle.std.proofs.Math.Option.{Option, none, some}
+use Rattle.std.specs.Prelude.{Option, None, Some}
 use native.Mathlib.Omega.{arith}
 use borrow.Author.Tests.{le-leb, lt-leb, leb-true}
 use Rattle.spec.specs.Lists.{all, each}
@@ -106,8 +106,8 @@ unfolding step_of
 step_pos b s = go (after b)
   where
     go : (o : Option (List Range)) → 0 < size (followed o s)
-    go none = omega arith
-    go (some rs) = follow-pos 1 rs s (omega arith)
+    go None = omega arith
+    go (Some rs) = follow-pos 1 rs s (omega arith)
 
 step_least : (s : List ℕ) → 0 < length s → 0 < size (step_of s)
 step_least [] h = absurd (not-suc-le-zero h)
@@ -119,8 +119,8 @@ step_within [] = omega arith
 step_within (b ∷ s) = go (after b)
   where
     go : (o : Option (List Range)) → size (followed o s) ≤ suc (length s)
-    go none = omega arith
-    go (some rs) = omega (arith, follow-within 1 rs s)
+    go None = omega arith
+    go (Some rs) = omega (arith, follow-within 1 rs s)
 
 pub char_within : (s : List ℕ) (n : ℕ) → 0 < length s → step_of s ≡ char n → (0 < n) × (n ≤ length s)
 char_within s n h e =
@@ -153,7 +153,7 @@ pub first-bad_zero : (s : List ℕ) → first_bad s ≡ first_bad_from 0 s
 unfolding first_bad
 first-bad_zero s = refl
 
-pub first-bad_nil : (i : ℕ) → first_bad_from i [] ≡ none
+pub first-bad_nil : (i : ℕ) → first_bad_from i [] ≡ None
 unfolding first_bad_from
 first-bad_nil i = refl
 
@@ -175,7 +175,7 @@ module _ (s : List ℕ) (h : 0 < length s) where
   unfolding first_bad_from
   first-bad-char i n e = ap (bad_part i) (parts-step s (char n) h e)
 
-  pub first-bad-other : (i : ℕ) (t : Step) → step_of s ≡ t → is_char t ≡ false → first_bad_from i s ≡ some i
+  pub first-bad-other : (i : ℕ) (t : Step) → step_of s ≡ t → is_char t ≡ false → first_bad_from i s ≡ Some i
   unfolding first_bad_from
   first-bad-other i t e f = ap (bad_part i) (parts-step s t h e) ∙ rw f
 
@@ -204,15 +204,15 @@ module _ (s : List ℕ) (h : 0 < length s) where
   blank-other t e f = ap (all white_part) (parts-step s t h e) ∙ rw f
 
 abbrev pub is_none : Option ℕ → Bool
-is_none none = true
-is_none (some i) = false
+is_none None = true
+is_none (Some i) = false
 
 -- A string is UTF-8 exactly if it has no first bad offset.
 pub well_formed_first : (s : List ℕ) → well_formed s ≡ is_none (first_bad s)
 unfolding well_formed first_bad
 well_formed_first s = go 0 (parts s)
   where
-    choose : (c : Bool) (i : ℕ) (o : Option ℕ) (w : Bool) → w ≡ is_none o → c && w ≡ is_none (cond c o (some i))
+    choose : (c : Bool) (i : ℕ) (o : Option ℕ) (w : Bool) → w ≡ is_none o → c && w ≡ is_none (cond c o (Some i))
     choose true i o w e = e
     choose false i o w e = refl
 

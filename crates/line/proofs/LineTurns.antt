@@ -1,6 +1,6 @@
 -- One turn of the walk over a text, read from a place of it. Assumes nothing.
 use mathlib.Core.Path.{◌≡◌, refl, sym, ap, ap₂, ◌∙◌}
-use mathlib.Core.Option.{some}
+use Rattle.std.specs.Prelude.{Some}
 use mathlib.Core.List.{List, [], ◌∷◌}
 use Prim.Native.Nat.{ℕ, suc, ◌+◌, ◌-◌, ◌≤◌, ◌<◌}
 use native.Mathlib.Nat.{add-zero}
@@ -72,7 +72,7 @@ module _ (text : List ℕ) (from end : ℕ) (h : from ≤ end) (k : end ≤ leng
 
 -- ── The turn ─────────────────────────────────────────────────────────
 
-next_line-some : (s : List ℕ) → 0 < length s → next_line s ≡ some (first_line (before_lf s) s)
+next_line-some : (s : List ℕ) → 0 < length s → next_line s ≡ Some (first_line (before_lf s) s)
 unfolding next_line
 next_line-some [] h = absurd (omega arith)
 next_line-some (b ∷ s) h = refl
@@ -90,7 +90,7 @@ module _ (text : List ℕ) (from lf : ℕ) (inside : from < length text) (found 
   pub found_in : (from ≤ lf) × (lf ≤ length text)
   found_in = let b = before_lf-le rest in let l = length-drop from text in (omega arith, omega arith)
 
-  first-of-rest : next_line rest ≡ some (first_line (before_lf rest) rest)
+  first-of-rest : next_line rest ≡ Some (first_line (before_lf rest) rest)
   first-of-rest = let l = length-drop from text in next_line-some rest (omega arith)
 
   -- the end of the line without one CR

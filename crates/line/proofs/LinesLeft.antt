@@ -1,7 +1,7 @@
 -- A walk over a text by `next_line` gives the lines of the text: each answer is the first of the lines that are left, and the walk goes
 -- on with the others. Assumes nothing.
 use mathlib.Core.Path.{◌≡◌, refl, ap, ◌∙◌}
-use mathlib.Core.Option.{Option, none, some}
+use Rattle.std.specs.Prelude.{Option, None, Some}
 use mathlib.Core.List.{List, [], ◌∷◌}
 use Prim.Native.Nat.{ℕ, ◌+◌, ◌-◌, ◌≤◌, ◌<◌}
 use native.Mathlib.Omega.{arith}
@@ -25,16 +25,16 @@ pub walk_done : (text : List ℕ) (from : ℕ) → Nothing ≡ line_at from (nex
 walk_done text from e = lines_next (drop from text) ∙ go (next_line (drop from text)) e
   where
     go : (o : Option First) → Nothing ≡ line_at from o → turn o (drop from text) ≡ []
-    go none e = refl
-    go (some f) e = let z : ◌≡◌ {A = ℕ} 0 1 = cc in absurd (omega arith)
+    go None e = refl
+    go (Some f) e = let z : ◌≡◌ {A = ℕ} 0 1 = cc in absurd (omega arith)
 
 -- There is one: it is the first of those that are left.
 pub walk_goes : (text : List ℕ) (from end next : ℕ) → Line end next ≡ line_at from (next_line (drop from text)) → Goes text from end next
 walk_goes text from end next e = go (next_line (drop from text)) refl e
   where
     go : (o : Option First) → next_line (drop from text) ≡ o → Line end next ≡ line_at from o → Goes text from end next
-    go none q e = let z : ◌≡◌ {A = ℕ} 0 1 = cc in absurd (omega arith)
-    go (some f) q e =
+    go None q e = let z : ◌≡◌ {A = ℕ} 0 1 = cc in absurd (omega arith)
+    go (Some f) q e =
         let x : end ≡ from + f.size = cc in
         let y : next ≡ from + f.next = cc in
         let s = next_line-stays (drop from text) f q in

@@ -1,7 +1,7 @@
 -- The fields of a line, a law for each answer. Assumes nothing.
 use mathlib.Core.Path.{◌≡◌, refl}
 use mathlib.Core.Bool.{Bool, true, false, ◌&&◌}
-use mathlib.Core.Option.{none, some}
+use Rattle.std.specs.Prelude.{None, Some}
 use mathlib.Core.List.{List}
 use Prim.Native.Nat.{ℕ, suc, ◌+◌, ◌≤◌, ◌<◌}
 use native.Mathlib.Omega.{arith}
@@ -17,16 +17,16 @@ unfolding fields need
 is_blank line e = rw e
 
 module _ (line : List ℕ) (no : blank line ≡ false) where
-  pub no-first : first_space line ≡ none → fields line ≡ refuse 4
+  pub no-first : first_space line ≡ None → fields line ≡ refuse 4
   unfolding fields need given
   no-first e = rw (no, e)
 
-  module _ (first : ℕ) (f : first_space line ≡ some first) where
-    pub no_last : last_space line ≡ none → fields line ≡ refuse 4
+  module _ (first : ℕ) (f : first_space line ≡ Some first) where
+    pub no_last : last_space line ≡ None → fields line ≡ refuse 4
     unfolding fields need given
     no_last e = rw (no, f, e)
 
-    module _ (last : ℕ) (l : last_space line ≡ some last) where
+    module _ (last : ℕ) (l : last_space line ≡ Some last) where
       placing : (c : Bool) → placed first last line ≡ c → fields line ≡ need 5 c (pass (parted first last line))
       unfolding fields need given
       placing c e = rw (no, f, l, e)

@@ -1,5 +1,5 @@
 -- What each answer of the crate `line` means, case by case. Assumes nothing.
-use Rattle.std.proofs.Math.Option.{Option, none, some}
+use Rattle.std.specs.Prelude.{Option, None, Some}
 use Rattle.std.specs.Prelude.{List, ℕ, suc, ◌+◌, ◌<◌, length}
 use Rattle.spec.specs.Check.{Check, pass, refuse}
 use Rattle.spec.specs.Line
@@ -14,13 +14,13 @@ use Rattle.line.specs.declared.Length.{Length}
 
 -- the first line of what stands behind the first `from` bytes of a text, as places in the text
 abbrev pub line_at : ℕ → Option First → NextLine
-line_at from none = NextLine.Nothing
-line_at from (some f) = NextLine.Line (from + f.size) (from + f.next)
+line_at from None = NextLine.Nothing
+line_at from (Some f) = NextLine.Line (from + f.size) (from + f.next)
 
 -- the place of a space, or none
 abbrev pub space_of : Space → Option ℕ
-space_of (At i) = some i
-space_of Nowhere = none
+space_of (At i) = Some i
+space_of Nowhere = None
 
 -- the fields of a line, or document 01's number
 abbrev pub fields_of : List ℕ → Fields → Check Line.Fields

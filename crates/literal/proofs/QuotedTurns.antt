@@ -2,7 +2,9 @@
 use mathlib.Core.Path.{◌≡◌, refl, sym, ap, ap₂, ◌∙◌, fun_ext, subst}
 use mathlib.Core.Logic.{◌⊎◌, inl, inr}
 use mathlib.Core.Bool.{Bool, true, false, ◌&&◌, ◌||◌, cond}
-use mathlib.Core.Option.{Option, none, some, bind, or_else, map}
+use Rattle.std.specs.Prelude.{Option, None, Some}
+use Rattle.std.specs.Option.{option_or, option_map}
+use Rattle.spec.specs.Options.{bind}
 use mathlib.Core.List.{List, [], ◌∷◌, ◌++◌}
 use Prim.Native.Nat.{ℕ, zero, suc, ◌+◌, ◌-◌, ◌/◌, ◌%◌, ◌≤◌, ◌<◌}
 use native.Mathlib.Nat.{add-zero, zero-add, le_refl, le_of_lt}
@@ -105,17 +107,17 @@ utf8_octal v (suc k) h z = rw (le-leb v 0x7FF (omega arith)) (go (leb v 0x7F))
     go false = omega arith
 
 abbrev Short : Option Piece → Type 0
-Short none = Unit {0}
-Short (some p) = (length p.bytes ≤ suc p.more) × (p.more ≤ 9)
+Short None = Unit {0}
+Short (Some p) = (length p.bytes ≤ suc p.more) × (p.more ≤ 9)
 
 short_byte : (in_b : Bool) (s : List ℕ) → Short (byte_escape in_b s)
 unfolding byte_escape bind
 short_byte in_b s = go in_b (hex_run 2 s)
   where
-    go : (b : Bool) (o : Option ℕ) → Short (escaped 3 (bind o (λ v. some (cond b (v ∷ []) (utf8_of v)))))
-    go b none = tt
-    go true (some v) = (lit≤ tt, lit≤ tt)
-    go false (some v) = (utf8_short v, lit≤ tt)
+    go : (b : Bool) (o : Option ℕ) → Short (escaped 3 (bind o (λ v. Some (cond b (v ∷ []) (utf8_of v)))))
+    go b None = tt
+    go true (Some v) = (lit≤ tt, lit≤ tt)
+    go false (Some v) = (utf8_short v, lit≤ tt)
 
 short_point : (n : ℕ) → 4 ≤ n → n ≤ 8 → (in_b : Bool) (s : List ℕ) → Short (point_escape n in_b s)
 unfolding point_escape bind
@@ -124,20 +126,20 @@ short_point n l m in_b s = go (hex_run n s)
     refused : ℕ → Bool
     refused v = in_b || (within (0xD800 to 0xDFFF) v || ltb 0x10FFFF v)
 
-    put_in : (v : ℕ) (c : Bool) → Short (escaped (suc n) (cond c none (some (utf8_of v))))
+    put_in : (v : ℕ) (c : Bool) → Short (escaped (suc n) (cond c None (Some (utf8_of v))))
     put_in v true = tt
     put_in v false = let h = utf8_short v in (omega arith, omega arith)
 
-    go : (o : Option ℕ) → Short (escaped (suc n) (bind o (λ v. cond (refused v) none (some (utf8_of v)))))
-    go none = tt
-    go (some v) = put_in v (refused v)
+    go : (o : Option ℕ) → Short (escaped (suc n) (bind o (λ v. cond (refused v) None (Some (utf8_of v)))))
+    go None = tt
+    go (Some v) = put_in v (refused v)
 
 short_octal : (in_b : Bool) (s : List ℕ) → Short (octal_escape in_b s)
 unfolding octal_escape
 short_octal in_b s = go in_b (octal_run 3 s).value (octal_run 3 s).count (octal_three s) (in_b && ltb 0xFF (octal_run 3 s).value)
   where
     go : (b : Bool) (v k : ℕ) → (k ≤ 3) × (v < 512) × (k ≡ 0 → v < 1) → (c : Bool)
-        → Short (escaped k (cond c none (some (cond b (v ∷ []) (utf8_of v)))))
+        → Short (escaped k (cond c None (Some (cond b (v ∷ []) (utf8_of v)))))
     go b v k h true = tt
     go true v k h false = (omega arith, omega arith)
     go false v k h false = (utf8_octal v k h.1 h.2, omega arith)
@@ -147,7 +149,7 @@ unfolding look_up
 short_letter [] c = tt
 short_letter (p ∷ ps) c = go (eqb c p.0) (short_letter ps c)
   where
-    go : (t : Bool) → Short (escaped 1 (look_up ps c)) → Short (escaped 1 (cond t (some (p.1 ∷ [])) (look_up ps c)))
+    go : (t : Bool) → Short (escaped 1 (look_up ps c)) → Short (escaped 1 (cond t (Some (p.1 ∷ [])) (look_up ps c)))
     go true h = (lit≤ tt, lit≤ tt)
     go false h = h
 
@@ -161,10 +163,9 @@ short_escape in_b (c ∷ s) = go (eqb c 0x78) (eqb c 0x75)
     go false true = short_point 4 (lit≤ tt) (lit≤ tt) in_b s
     go false false = short_letter letters c
 
-short_or : (o p : Option Piece) → Short o → Short p → Short (or_else o p)
-unfolding or_else
-short_or none p h k = k
-short_or (some q) p h k = h
+short_or : (o p : Option Piece) → Short o → Short p → Short (option_or o p)
+short_or None p h k = k
+short_or (Some q) p h k = h
 
 short_escape2 : (in_b : Bool) (s : List ℕ) → Short (escape2 in_b s)
 unfolding escape2
@@ -173,7 +174,7 @@ short_escape2 in_b (c ∷ s) = go (within (0x30 to 0x37) c) (eqb c 0x55)
   where
     go : (o u : Bool)
         → Short (cond o (octal_escape in_b (c ∷ s))
-        (cond u (point_escape 8 in_b s) (or_else (escaped 1 (look_up more_letters c)) (escape in_b (c ∷ s)))))
+        (cond u (point_escape 8 in_b s) (option_or (escaped 1 (look_up more_letters c)) (escape in_b (c ∷ s)))))
     go true u = short_octal in_b (c ∷ s)
     go false true = short_point 8 (lit≤ tt) (lit≤ tt) in_b s
     go false false = short_or (escaped 1 (look_up more_letters c)) _ (short_letter more_letters c) (short_escape in_b (c ∷ s))
@@ -188,10 +189,10 @@ short_edition edition in_b s = go (eqb edition 2)
 
 -- a set of escapes whose pieces are short
 module _ (escapes : Escapes) (short : (in_b : Bool) (s : List ℕ) → Short (escapes in_b s)) where
-  short-piece : (in_b : Bool) (quote b : ℕ) (s : List ℕ) (p : Piece) → piece_at escapes in_b quote b s ≡ some p → Short (some p)
+  short-piece : (in_b : Bool) (quote b : ℕ) (s : List ℕ) (p : Piece) → piece_at escapes in_b quote b s ≡ Some p → Short (Some p)
   short-piece in_b quote b s p e = subst Short e (go (eqb b backslash) (eqb b quote || (in_b && leb 0x80 b)))
     where
-      go : (x y : Bool) → Short (cond x (escapes in_b s) (cond y none (some (record { bytes = b ∷ []; more = 0 }))))
+      go : (x y : Bool) → Short (cond x (escapes in_b s) (cond y None (Some (record { bytes = b ∷ []; more = 0 }))))
       go true y = short in_b s
       go false true = tt
       go false false = (lit≤ tt, lit≤ tt)
@@ -233,10 +234,10 @@ module _ (escapes : Escapes) (in_b : Bool) (quote : ℕ) where
     step-at : i < length text → from i ≡ piece at (λ k. inside escapes in_b quote (drop (suc k) (drop i text)) 0)
     step-at h = let l = length-drop i text in inside-step (drop i text) (omega arith)
 
-    turn-bad : i < length text → at ≡ none → from i ≡ bad
+    turn-bad : i < length text → at ≡ None → from i ≡ bad
     turn-bad h e = step-at h ∙ rw e
 
-    turn-piece : (p : Piece) → i < length text → at ≡ some p → from i ≡ put p.bytes (from (i + (1 + p.more)))
+    turn-piece : (p : Piece) → i < length text → at ≡ Some p → from i ≡ put p.bytes (from (i + (1 + p.more)))
     turn-piece p h e =
         let z : 1 + p.more ≡ suc p.more = omega arith in
         step-at h ∙ rw (e, drop-drop, z)
@@ -253,12 +254,12 @@ module _ (escapes : Escapes) (in_b : Bool) (quote : ℕ) where
 
     module _ (l : List ℕ) (n : ℕ) where
       -- the literal is bad from here on
-      pub goes-bad : i < length text → at ≡ none → record { cells = l; answer = none } ≡ left l n (from i)
+      pub goes-bad : i < length text → at ≡ None → record { cells = l; answer = None } ≡ left l n (from i)
       unfolding left
       goes-bad h e = rw (turn-bad h e)
 
       -- a piece, written to the cells
-      pub goes_on : (p : Piece) (l' : List ℕ) (n' : ℕ) → i < length text → at ≡ some p
+      pub goes_on : (p : Piece) (l' : List ℕ) (n' : ℕ) → i < length text → at ≡ Some p
           → l' ≡ sets l n p.bytes → n' ≡ n + length p.bytes
           → left l' n' (from (i + (1 + p.more))) ≡ left l n (from i)
       goes_on p l' n' h e cells count =
@@ -267,13 +268,13 @@ module _ (escapes : Escapes) (in_b : Bool) (quote : ℕ) where
           ∙ sym (ap (left l n) (turn-piece p h e))
 
       -- the end
-      pub goes_end : length text ≤ i → record { cells = l; answer = some n } ≡ left l n (from i)
+      pub goes_end : length text ≤ i → record { cells = l; answer = Some n } ≡ left l n (from i)
       unfolding left
       goes_end h = rw (turn_end h, add-zero)
 
 -- what stands at a place, in an edition
 pub bounds : (edition : ℕ) (in_b : Bool) (quote : ℕ) (text : List ℕ) (i : ℕ) (p : Piece)
-    → at (escapes_of edition) in_b quote text i ≡ some p
+    → at (escapes_of edition) in_b quote text i ≡ Some p
     → (length p.bytes ≤ suc p.more) × (p.more ≤ 9)
 bounds edition in_b quote text i p e =
     short-piece (escapes_of edition) (short_edition edition) in_b quote (get_or (drop i text) 0 0) (drop 1 (drop i text)) p e
@@ -314,7 +315,7 @@ module _ (escapes : Escapes) (in_b : Bool) (s : List ℕ) where
       rw (le-leb 2 (length s) h, e, eq-eqb (get_or s (length s - 1) 0) (get_or s 0 0) q, ← n) k
 
 -- a literal that is bad from its start leaves the cells as they were
-pub bad-start : (l : List ℕ) (r : Read) → r ≡ bad → record { cells = l; answer = none } ≡ left l 0 r
+pub bad-start : (l : List ℕ) (r : Read) → r ≡ bad → record { cells = l; answer = None } ≡ left l 0 r
 unfolding left
 bad-start l r e = rw e
 
@@ -337,7 +338,7 @@ module _ (edition : ℕ) where
   -- what the whole reading leaves is what the literal stands for
   pub finished : (s cells₀ cells : List ℕ) (answer : Option ℕ)
       → record { cells = cells; answer = answer } ≡ left cells₀ 0 (read edition s)
-      → (answer ≡ map length (literal edition s)) × (cells ≡ stored (read edition s).bytes cells₀)
+      → (answer ≡ option_map length (literal edition s)) × (cells ≡ stored (read edition s).bytes cells₀)
   unfolding left literal
   finished s cells₀ cells answer e = (
     ap (λ (z : Left). z.answer) e ∙ go (read edition s).good,
@@ -347,6 +348,6 @@ module _ (edition : ℕ) where
       bs : List ℕ
       bs = (read edition s).bytes
 
-      go : (c : Bool) → cond c (some (0 + length bs)) none ≡ map length (cond c (some bs) none)
-      go true = ap {B = Option ℕ} some (zero-add (length bs))
+      go : (c : Bool) → cond c (Some (0 + length bs)) None ≡ option_map length (cond c (Some bs) None)
+      go true = ap {B = Option ℕ} Some (zero-add (length bs))
       go false = refl

@@ -1,7 +1,7 @@
 -- The tokens of an accepted source are a valid vocabulary, and what the partial mode changes. Assumes nothing.
 use Rattle.std.specs.Prelude.{◌≡◌, refl, ◌⊎◌, Bool, true, false, cond, ℕ, zero, suc, ◌+◌, ◌≤◌, ◌<◌, eqb, leb, length}
 use Rattle.std.proofs.Common.{sym, ap, ◌∙◌, subst, inl, inr, arith, leb-true, eqb-true, ltb-false}
-use Rattle.std.proofs.Math.Option.{Option, none, some}
+use Rattle.std.specs.Prelude.{Option, None, Some}
 use mathlib.Core.List.Memᴰ
 use mathlib.Core.List.{List, [], ◌∷◌, ◌++◌, Memᴰ}
 use Rattle.std.proofs.lemmas.Bool.{eqb-false, not-true}
@@ -165,7 +165,7 @@ accepted≢refused ts n p e = let z : ◌≡◌ {A = ℕ} 0 1 = cc in omega arit
 
 -- what an accepted end says of its tokens
 pub record Finishes (partial : Bool) (room : Room) (ts : List Token) : Type 0 where
-  pub whole : demanded partial (missing ts 256 0) ≡ none
+  pub whole : demanded partial (missing ts 256 0) ≡ None
   pub table : table_words ts ≤ room.table
 
 pub finish-accepts : (partial : Bool) (room : Room) (ts us : List Token) → finish partial room ts ≡ accepted us → (ts ≡ us)
@@ -181,13 +181,13 @@ finish-accepts partial room (t ∷ ts) us e = go (demanded partial (missing (t �
 
     go : (o : Option ℕ) → demanded partial (missing (t ∷ ts) 256 0) ≡ o
         → elim o [
-          | some b ↦ refused 20 (byte b)
-          | none ↦ cond (leb (table_words (t ∷ ts)) room.table) (accepted (t ∷ ts))
+          | Some b ↦ refused 20 (byte b)
+          | None ↦ cond (leb (table_words (t ∷ ts)) room.table) (accepted (t ∷ ts))
               (refused 21 nowhere)
         ] ≡ accepted us
         → (t ∷ ts ≡ us) × Finishes partial room (t ∷ ts)
-    go (some b) o k = absurd (accepted≢refused us 20 (byte b) k)
-    go none o k = let (z, w) = room_for (leb (table_words (t ∷ ts)) room.table) refl k in (z, record { whole = o; table = w })
+    go (Some b) o k = absurd (accepted≢refused us 20 (byte b) k)
+    go None o k = let (z, w) = room_for (leb (table_words (t ∷ ts)) room.table) refl k in (z, record { whole = o; table = w })
 
 -- what holds of the tokens read so far
 pub record Held (room : Room) (ts : List Token) : Type 0 where
@@ -239,17 +239,17 @@ loads_valid form partial room body h ts e = (load-accepts form partial room body
 
 -- ---- the modes
 
-none≢some : {A : Type 0} (a : A) → some a ≡ none → ⊥
-none≢some a e = let z : ◌≡◌ {A = ℕ} 0 1 = cc in omega arith
+None≢Some : {A : Type 0} (a : A) → Some a ≡ None → ⊥
+None≢Some a e = let z : ◌≡◌ {A = ℕ} 0 1 = cc in omega arith
 
-missing-none : (ts : List Token) (n b : ℕ) → missing ts n b ≡ none → (c : ℕ) → b ≤ c → c < b + n → seen ts (c ∷ []) ≡ true
+missing-none : (ts : List Token) (n b : ℕ) → missing ts n b ≡ None → (c : ℕ) → b ≤ c → c < b + n → seen ts (c ∷ []) ≡ true
 unfolding missing
 missing-none ts zero b e c l h = absurd (omega arith)
 missing-none ts (suc n) b e c l h = go (seen ts (b ∷ [])) refl e (either (eqb b c)) (λ k. missing-none ts n (suc b) k c)
   where
-    go : (t : Bool) → seen ts (b ∷ []) ≡ t → cond t (missing ts n (suc b)) (some b) ≡ none → (eqb b c ≡ true) ⊎ (eqb b c ≡ false)
-        → (missing ts n (suc b) ≡ none → suc b ≤ c → c < suc b + n → seen ts (c ∷ []) ≡ true) → seen ts (c ∷ []) ≡ true
-    go false p k q r = absurd (none≢some b k)
+    go : (t : Bool) → seen ts (b ∷ []) ≡ t → cond t (missing ts n (suc b)) (Some b) ≡ None → (eqb b c ≡ true) ⊎ (eqb b c ≡ false)
+        → (missing ts n (suc b) ≡ None → suc b ≤ c → c < suc b + n → seen ts (c ∷ []) ≡ true) → seen ts (c ∷ []) ≡ true
+    go false p k q r = absurd (None≢Some b k)
     go true p k (inl q) r = ap (λ (x : ℕ). seen ts (x ∷ [])) (sym (eqb-true b c q)) ∙ p
     go true p k (inr q) r = let ne = eqb-false b c q in r k (omega (arith, ne)) (omega arith)
 
@@ -263,10 +263,10 @@ finish-modes room (t ∷ ts) = go (missing (t ∷ ts) 256 0)
     end : Outcome
     end = cond (leb (table_words (t ∷ ts)) room.table) (accepted (t ∷ ts)) (refused 21 nowhere)
 
-    go : (o : Option ℕ) → (elim o [ some b ↦ refused 20 (byte b) | none ↦ end ] ≡ end) ⊎
-        ((b : ℕ) × (elim o [ some b ↦ refused 20 (byte b) | none ↦ end ] ≡ refused 20 (byte b)))
-    go none = inl refl
-    go (some b) = inr (b, refl)
+    go : (o : Option ℕ) → (elim o [ Some b ↦ refused 20 (byte b) | None ↦ end ] ≡ end) ⊎
+        ((b : ℕ) × (elim o [ Some b ↦ refused 20 (byte b) | None ↦ end ] ≡ refused 20 (byte b)))
+    go None = inl refl
+    go (Some b) = inr (b, refl)
 
 records_modes : (form : Form) (room : Room) (n : ℕ) (ts : List Token) (ls : List (List ℕ))
     → (take_all form false room n ts ls ≡ take_all form true room n ts ls)

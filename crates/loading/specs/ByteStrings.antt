@@ -2,7 +2,9 @@
 use Rattle.std.specs.Prelude.{◌≡◌, refl, Bool, not, ◌&&◌, ◌||◌, eqb, leb, ltb, length, take, drop, get_or}
 use Rattle.std.proofs.Common.{◌∙◌, subst, arith, leb-true, ltb-true, ltb-false}
 use Rattle.std.proofs.Math.Bool.{true, false, cond}
-use Rattle.std.proofs.Math.Option.{Option, none, some, bind, or_else}
+use Rattle.std.specs.Prelude.{Option, None, Some}
+use Rattle.std.specs.Option.{option_or}
+use Rattle.spec.specs.Options.{bind}
 use mathlib.Core.List.{List, [], ◌∷◌, ◌++◌}
 use Prim.Native.Nat.{ℕ, zero, suc, ◌+◌, ◌-◌, ◌/◌, ◌%◌, ◌<◌}
 use Rattle.spec.specs.Lists.{all, Bytes}
@@ -103,44 +105,44 @@ utf8_bytes c =
     bytes_cond (leb c 0x10FFFF) ((0xF0 + c / 262144) ∷ (0x80 + c / 4096 % 64) ∷ (0x80 + c / 64 % 64) ∷ (0x80 + c % 64) ∷ []) []
     (λ e. let h = leb-true c 0x10FFFF e in (omega arith, (omega arith, (omega arith, (omega arith, tt))))) (λ e. tt)))))
 
-none≢some : {A : Type 0} (a : A) → none ≡ some a → ⊥
-none≢some a e = let z : ◌≡◌ {A = ℕ} 0 1 = cc in omega arith
+None≢Some : {A : Type 0} (a : A) → None ≡ Some a → ⊥
+None≢Some a e = let z : ◌≡◌ {A = ℕ} 0 1 = cc in omega arith
 
-bind_some : {A B : Type 0} (o : Option A) (k : A → Option B) (b : B) → bind o k ≡ some b → (a : A) × (o ≡ some a) × (k a ≡ some b)
+bind_some : {A B : Type 0} (o : Option A) (k : A → Option B) (b : B) → bind o k ≡ Some b → (a : A) × (o ≡ Some a) × (k a ≡ Some b)
 unfolding bind
-bind_some none k b e = absurd (none≢some b e)
-bind_some (some a) k b e = (a, refl, e)
+bind_some None k b e = absurd (None≢Some b e)
+bind_some (Some a) k b e = (a, refl, e)
 
-escape-of : (n : ℕ) (o : Option (List ℕ)) (p : Piece) → ((bs : List ℕ) → o ≡ some bs → Bytes bs) → escaped n o ≡ some p → Bytes p.bytes
-escape-of n none p h e = absurd (none≢some p e)
-escape-of n (some bs) p h e = let z : record { bytes = bs; more = n } ≡ p = cc in subst (λ (q : Piece). Bytes q.bytes) z (h bs refl)
+escape-of : (n : ℕ) (o : Option (List ℕ)) (p : Piece) → ((bs : List ℕ) → o ≡ Some bs → Bytes bs) → escaped n o ≡ Some p → Bytes p.bytes
+escape-of n None p h e = absurd (None≢Some p e)
+escape-of n (Some bs) p h e = let z : record { bytes = bs; more = n } ≡ p = cc in subst (λ (q : Piece). Bytes q.bytes) z (h bs refl)
 
 -- a table whose bytes are bytes, by a test over all of it
-letter_bytes : (ps : List (ℕ × ℕ)) (c : ℕ) (bs : List ℕ) → all (λ (p : ℕ × ℕ). ltb p.1 256) ps ≡ true → look_up ps c ≡ some bs → Bytes bs
+letter_bytes : (ps : List (ℕ × ℕ)) (c : ℕ) (bs : List ℕ) → all (λ (p : ℕ × ℕ). ltb p.1 256) ps ≡ true → look_up ps c ≡ Some bs → Bytes bs
 unfolding look_up all
-letter_bytes [] c bs h e = absurd (none≢some bs e)
+letter_bytes [] c bs h e = absurd (None≢Some bs e)
 letter_bytes (p ∷ ps) c bs h e = go (eqb c p.0) e (λ k. letter_bytes ps c bs (and_r (ltb p.1 256) _ h) k)
   where
-    go : (t : Bool) → cond t (some (p.1 ∷ [])) (look_up ps c) ≡ some bs → (look_up ps c ≡ some bs → Bytes bs) → Bytes bs
+    go : (t : Bool) → cond t (Some (p.1 ∷ [])) (look_up ps c) ≡ Some bs → (look_up ps c ≡ Some bs → Bytes bs) → Bytes bs
     go true e k = let z : p.1 ∷ [] ≡ bs = cc in subst Bytes z (ltb-true p.1 256 (and_l (ltb p.1 256) _ h), tt)
     go false e k = k e
 
 -- a set of escapes that stand for bytes
 abbrev ToBytes : Escapes → Type 0
-ToBytes escapes = (in_b : Bool) (s : List ℕ) (p : Piece) → escapes in_b s ≡ some p → Bytes p.bytes
+ToBytes escapes = (in_b : Bool) (s : List ℕ) (p : Piece) → escapes in_b s ≡ Some p → Bytes p.bytes
 
 -- a code point, unless it is refused
-point_or : (t : Bool) (v : ℕ) (bs : List ℕ) → cond t none (some (utf8_of v)) ≡ some bs → Bytes bs
-point_or true v bs e = absurd (none≢some bs e)
+point_or : (t : Bool) (v : ℕ) (bs : List ℕ) → cond t None (Some (utf8_of v)) ≡ Some bs → Bytes bs
+point_or true v bs e = absurd (None≢Some bs e)
 point_or false v bs e = let z : utf8_of v ≡ bs = cc in subst Bytes z (utf8_bytes v)
 
 byte_escapes : ToBytes byte_escape
 unfolding byte_escape
-byte_escapes in_b s p e = escape-of 3 (bind (hex_run 2 s) (λ v. some (cond in_b (v ∷ []) (utf8_of v)))) p two e
+byte_escapes in_b s p e = escape-of 3 (bind (hex_run 2 s) (λ v. Some (cond in_b (v ∷ []) (utf8_of v)))) p two e
   where
-    two : (bs : List ℕ) → bind (hex_run 2 s) (λ v. some (cond in_b (v ∷ []) (utf8_of v))) ≡ some bs → Bytes bs
+    two : (bs : List ℕ) → bind (hex_run 2 s) (λ v. Some (cond in_b (v ∷ []) (utf8_of v))) ≡ Some bs → Bytes bs
     two bs e =
-        let (v, q, r) = bind_some (hex_run 2 s) (λ v. some (cond in_b (v ∷ []) (utf8_of v))) bs e in
+        let (v, q, r) = bind_some (hex_run 2 s) (λ v. Some (cond in_b (v ∷ []) (utf8_of v))) bs e in
         let h = hex_run_lt 2 v s q in
         let z : cond in_b (v ∷ []) (utf8_of v) ≡ bs = cc in
         subst Bytes z (bytes_cond in_b (v ∷ []) (utf8_of v) (λ t. (omega arith, tt)) (λ t. utf8_bytes v))
@@ -153,9 +155,9 @@ point_escapes n in_b s p e = escape-of (suc n) (bind (hex_run n s) points) p all
     refused v = in_b || (within (0xD800 to 0xDFFF) v || ltb 0x10FFFF v)
 
     points : ℕ → Option (List ℕ)
-    points v = cond (refused v) none (some (utf8_of v))
+    points v = cond (refused v) None (Some (utf8_of v))
 
-    all : (bs : List ℕ) → bind (hex_run n s) points ≡ some bs → Bytes bs
+    all : (bs : List ℕ) → bind (hex_run n s) points ≡ Some bs → Bytes bs
     all bs e = let (v, q, r) = bind_some (hex_run n s) points bs e in point_or (refused v) v bs r
 
 octal_escapes : ToBytes octal_escape
@@ -167,10 +169,10 @@ octal_escapes in_b s p e =
     v = (octal_run 3 s).value
 
     told : Bool → Bool → Option (List ℕ)
-    told b t = cond (b && t) none (some (cond b (v ∷ []) (utf8_of v)))
+    told b t = cond (b && t) None (Some (cond b (v ∷ []) (utf8_of v)))
 
-    of : (b t : Bool) → ltb 0xFF v ≡ t → (bs : List ℕ) → told b t ≡ some bs → Bytes bs
-    of true true h bs e = absurd (none≢some bs e)
+    of : (b t : Bool) → ltb 0xFF v ≡ t → (bs : List ℕ) → told b t ≡ Some bs → Bytes bs
+    of true true h bs e = absurd (None≢Some bs e)
     of true false h bs e =
         let k = ltb-false 0xFF v h in
         let z : v ∷ [] ≡ bs = cc in
@@ -178,45 +180,45 @@ octal_escapes in_b s p e =
     of false t h bs e = point_or false v bs e
 
 letter_escapes : (ps : List (ℕ × ℕ)) (c : ℕ) (p : Piece) → all (λ (p : ℕ × ℕ). ltb p.1 256) ps ≡ true
-    → escaped 1 (look_up ps c) ≡ some p → Bytes p.bytes
+    → escaped 1 (look_up ps c) ≡ Some p → Bytes p.bytes
 letter_escapes ps c p h e = escape-of 1 (look_up ps c) p (λ bs k. letter_bytes ps c bs h k) e
 
 first-edition : ToBytes escape
 unfolding escape all
-first-edition in_b [] p e = absurd (none≢some p e)
+first-edition in_b [] p e = absurd (None≢Some p e)
 first-edition in_b (c ∷ s) p e = go (eqb c 0x78) (eqb c 0x75) e
   where
-    go : (x u : Bool) → cond x (byte_escape in_b s) (cond u (point_escape 4 in_b s) (escaped 1 (look_up letters c))) ≡ some p
+    go : (x u : Bool) → cond x (byte_escape in_b s) (cond u (point_escape 4 in_b s) (escaped 1 (look_up letters c))) ≡ Some p
         → Bytes p.bytes
     go true u e = byte_escapes in_b s p e
     go false true e = point_escapes 4 in_b s p e
     go false false e = letter_escapes letters c p refl e
 
 second_edition : ToBytes escape2
-unfolding escape2 all or_else
-second_edition in_b [] p e = absurd (none≢some p e)
+unfolding escape2 all
+second_edition in_b [] p e = absurd (None≢Some p e)
 second_edition in_b (c ∷ s) p e = go (within (0x30 to 0x37) c) (eqb c 0x55) (escaped 1 (look_up more_letters c)) refl e
   where
     go : (o u : Bool) (l : Option Piece) → escaped 1 (look_up more_letters c) ≡ l
-        → cond o (octal_escape in_b (c ∷ s)) (cond u (point_escape 8 in_b s) (or_else l (escape in_b (c ∷ s)))) ≡ some p → Bytes p.bytes
+        → cond o (octal_escape in_b (c ∷ s)) (cond u (point_escape 8 in_b s) (option_or l (escape in_b (c ∷ s)))) ≡ Some p → Bytes p.bytes
     go true u l h e = octal_escapes in_b (c ∷ s) p e
     go false true l h e = point_escapes 8 in_b s p e
-    go false false (some q) h e = letter_escapes more_letters c p refl (h ∙ e)
-    go false false none h e = first-edition in_b (c ∷ s) p e
+    go false false (Some q) h e = letter_escapes more_letters c p refl (h ∙ e)
+    go false false None h e = first-edition in_b (c ∷ s) p e
 
 of_edition : (edition : ℕ) → ToBytes (escapes_of edition)
 unfolding escapes_of
 of_edition edition in_b s p e = go (eqb edition 2) e
   where
-    go : (t : Bool) → cond t escape2 escape in_b s ≡ some p → Bytes p.bytes
+    go : (t : Bool) → cond t escape2 escape in_b s ≡ Some p → Bytes p.bytes
     go true e = second_edition in_b s p e
     go false e = first-edition in_b s p e
 
-plain-bytes : (in_b : Bool) (quote b : ℕ) (p : Piece) → b < 256 → plain in_b quote b ≡ some p → Bytes p.bytes
+plain-bytes : (in_b : Bool) (quote b : ℕ) (p : Piece) → b < 256 → plain in_b quote b ≡ Some p → Bytes p.bytes
 plain-bytes in_b quote b p h e = go (eqb b quote || (in_b && leb 0x80 b)) e
   where
-    go : (t : Bool) → cond t none (some (record { bytes = b ∷ []; more = 0 })) ≡ some p → Bytes p.bytes
-    go true e = absurd (none≢some p e)
+    go : (t : Bool) → cond t None (Some (record { bytes = b ∷ []; more = 0 })) ≡ Some p → Bytes p.bytes
+    go true e = absurd (None≢Some p e)
     go false e = let z : record { bytes = b ∷ []; more = 0 } ≡ p = cc in subst (λ (q : Piece). Bytes q.bytes) z (h, tt)
 
 module _ (escapes : Escapes) (to-bytes : ToBytes escapes) where
@@ -227,14 +229,14 @@ module _ (escapes : Escapes) (to-bytes : ToBytes escapes) where
   inside-bytes in_b quote (b ∷ s) zero h = go (piece_at escapes in_b quote b s) (λ p e. one (eqb b 0x5C) p e)
       (λ k. inside-bytes in_b quote s k h.1)
     where
-      one : (t : Bool) (p : Piece) → cond t (escapes in_b s) (plain in_b quote b) ≡ some p → Bytes p.bytes
+      one : (t : Bool) (p : Piece) → cond t (escapes in_b s) (plain in_b quote b) ≡ Some p → Bytes p.bytes
       one true p e = to-bytes in_b s p e
       one false p e = plain-bytes in_b quote b p h.0 e
 
-      go : (o : Option Piece) → ((p : Piece) → o ≡ some p → Bytes p.bytes) → ((k : ℕ) → Bytes (inside escapes in_b quote s k).bytes)
+      go : (o : Option Piece) → ((p : Piece) → o ≡ Some p → Bytes p.bytes) → ((k : ℕ) → Bytes (inside escapes in_b quote s k).bytes)
           → Bytes (piece o (λ k. inside escapes in_b quote s k)).bytes
-      go none a r = tt
-      go (some p) a r = bytes_append p.bytes (inside escapes in_b quote s p.more).bytes (a p refl) (r p.more)
+      go None a r = tt
+      go (Some p) a r = bytes_append p.bytes (inside escapes in_b quote s p.more).bytes (a p refl) (r p.more)
 
   quoted-bytes : (in_b : Bool) (s : List ℕ) → Bytes s → Bytes (quoted escapes in_b s).bytes
   unfolding quoted
@@ -255,12 +257,12 @@ module _ (escapes : Escapes) (to-bytes : ToBytes escapes) where
       go false = quoted-bytes false (b ∷ s) h
 
 -- what a literal stands for is a byte string
-pub literal-bytes : (edition : ℕ) (s bs : List ℕ) → literal edition s ≡ some bs → Bytes s → Bytes bs
+pub literal-bytes : (edition : ℕ) (s bs : List ℕ) → literal edition s ≡ Some bs → Bytes s → Bytes bs
 unfolding literal read
 literal-bytes edition s bs e h = go (read_with (escapes_of edition) s).good e
   where
-    go : (t : Bool) → cond t (some (read_with (escapes_of edition) s).bytes) none ≡ some bs → Bytes bs
+    go : (t : Bool) → cond t (Some (read_with (escapes_of edition) s).bytes) None ≡ Some bs → Bytes bs
     go true e =
         let z : (read_with (escapes_of edition) s).bytes ≡ bs = cc in
         subst Bytes z (read-bytes (escapes_of edition) (of_edition edition) s h)
-    go false e = absurd (none≢some bs e)
+    go false e = absurd (None≢Some bs e)

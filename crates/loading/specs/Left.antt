@@ -2,7 +2,7 @@
 use Rattle.std.specs.Prelude.{◌≡◌, refl, Bool, true, false, not, ◌||◌, cond, List, [], ◌∷◌, ℕ, suc, ◌≤◌, eqb, leb, length}
 use Rattle.std.proofs.Common.{sym, ap₂, ◌∙◌, subst, inl, inr, arith, eqb-true}
 use Rattle.std.proofs.Math.Path.{ap}
-use Rattle.std.proofs.Math.Option.{Option, none, some}
+use Rattle.std.specs.Prelude.{Option, None, Some}
 use Rattle.spec.specs.Lists.{Bytes}
 use Rattle.spec.specs.Check.{Check, pass, refuse, given, need}
 use Rattle.spec.specs.Utf8.{well_formed, first_bad, blank}
@@ -71,12 +71,12 @@ finish-refused partial room (t ∷ ts) n p e = go (demanded partial (missing (t 
 
     go : (o : Option ℕ)
         → elim o [
-          | some b ↦ refused 20 (byte b)
-          | none ↦ cond (leb (table_words (t ∷ ts)) room.table) (accepted (t ∷ ts)) (refused 21 nowhere)
+          | Some b ↦ refused 20 (byte b)
+          | None ↦ cond (leb (table_words (t ∷ ts)) room.table) (accepted (t ∷ ts)) (refused 21 nowhere)
         ] ≡ refused n p
         → 3 ≤ n
-    go (some b) e = let z : 20 ≡ n = cc in omega arith
-    go none e = at (leb (table_words (t ∷ ts)) room.table) e
+    go (Some b) e = let z : 20 ≡ n = cc in omega arith
+    go None e = at (leb (table_words (t ∷ ts)) room.table) e
 
 records_refused : (form : Form) (partial : Bool) (room : Room) (k : ℕ) (ts : List Token) (rs : List (List ℕ)) (n : ℕ) (p : Place)
     → take_all form partial room k ts rs ≡ refused n p → 3 ≤ n
@@ -119,8 +119,8 @@ passes true n rest mode body e = absurd (let z : ◌≡◌ {A = ℕ} 0 1 = cc in
 passes false n rest mode body e = (refl, e)
 
 utf8_passes : (o : Option ℕ) (rest : Start) (mode : Bool) (body : List ℕ) → in_utf8 o rest ≡ goes mode body → rest ≡ goes mode body
-utf8_passes none rest mode body e = e
-utf8_passes (some k) rest mode body e = absurd (let z : ◌≡◌ {A = ℕ} 0 1 = cc in omega arith)
+utf8_passes None rest mode body e = e
+utf8_passes (Some k) rest mode body e = absurd (let z : ◌≡◌ {A = ℕ} 0 1 = cc in omega arith)
 
 -- a load that halts before its records has a number above 0
 late : (b : Bool) (k : ℕ) (rest : Start) (n : ℕ) (p : Place) → 1 ≤ k → (rest ≡ halts n p → 1 ≤ n) → halt_if b k rest ≡ halts n p → 1 ≤ n
@@ -128,8 +128,8 @@ late true k rest n p h r e = let z : k ≡ n = cc in omega arith
 late false k rest n p h r e = r e
 
 utf8_late : (o : Option ℕ) (mode : Bool) (body : List ℕ) (n : ℕ) (p : Place) → in_utf8 o (goes mode body) ≡ halts n p → 1 ≤ n
-utf8_late none mode body n p e = absurd (let z : ◌≡◌ {A = ℕ} 0 1 = cc in omega arith)
-utf8_late (some k) mode body n p e = let z : 2 ≡ n = cc in omega arith
+utf8_late None mode body n p e = absurd (let z : ◌≡◌ {A = ℕ} 0 1 = cc in omega arith)
+utf8_late (Some k) mode body n p e = let z : 2 ≡ n = cc in omega arith
 
 start-halts : (form : Form) (partial : Bool) (m : Memory) (s : List ℕ) (n : ℕ) (p : Place) → start_of form partial m s ≡ halts n p → 1 ≤ n
 unfolding start_of
@@ -158,7 +158,7 @@ by_first_bad edition partial m s k long o e =
     ∙ ap₂ (λ (b : Bool) (x : Option ℕ). halt_if b 1 (in_utf8 x (goes partial s))) long e
 
 pub text_starts : TextStarts
-text_starts edition partial m s k long w = by_first_bad edition partial m s k long none (well_formed_none s w)
+text_starts edition partial m s k long w = by_first_bad edition partial m s k long None (well_formed_none s w)
 
 pub text_goes : TextGoes
 unfolding start_of
@@ -254,5 +254,5 @@ pub names_first_bad : NamesFirstBad
 names_first_bad edition partial nodes table m text is long bad =
     let (k, e) = not-well_formed text bad in
     let (inside, other, before) = first-bad_is_first text k e in
-    let starts = by_first_bad edition partial m text is long (some k) e in
+    let starts = by_first_bad edition partial m text is long (Some k) e in
     (k, by-start (vocabulary edition) nodes table m partial text (halts 2 (offset k)) starts, inside, other, before)

@@ -1,7 +1,7 @@
 -- The answers of lossy decoding: an absent id, a text that does not fit, the text. Assumes nothing.
 use mathlib.Core.Path.{◌≡◌, refl, ap, sym, ◌∙◌}
 use mathlib.Core.Bool.{true, false}
-use mathlib.Core.Option.{none, some}
+use Rattle.std.specs.Prelude.{None, Some}
 use mathlib.Core.List.{List, [], ◌∷◌}
 use Prim.Native.Nat.{ℕ, zero, suc, ◌+◌, ◌≤◌, ◌<◌}
 use native.Mathlib.Omega.{arith}
@@ -35,7 +35,7 @@ abbrev absent_at : ℕ → ℕ → Answer
 absent_at k i = record { number = 27; count = 0; place = k; value = i }
 
 module _ (m : Memory) where
-  first-here : (k i : ℕ) (ids : List ℕ) → lookup m i ≡ [] → first_absent m k (i ∷ ids) ≡ some (absent_at k i)
+  first-here : (k i : ℕ) (ids : List ℕ) → lookup m i ≡ [] → first_absent m k (i ∷ ids) ≡ Some (absent_at k i)
   unfolding first_absent
   first-here k i ids e = rw (e, first_absent)
 
@@ -46,17 +46,17 @@ module _ (m : Memory) where
 
   -- the ids before j have bytes, and the one at j has none
   first_some : (ids : List ℕ) (k j : ℕ) → ((i : ℕ) → i < j → 1 ≤ length (lookup m (get_or ids i 0))) → j < length ids
-      → lookup m (get_or ids j 0) ≡ [] → first_absent m k ids ≡ some (absent_at (k + j) (get_or ids j 0))
+      → lookup m (get_or ids j 0) ≡ [] → first_absent m k ids ≡ Some (absent_at (k + j) (get_or ids j 0))
   first_some [] k j p h e = absurd (not-suc-le-zero h)
   first_some (i ∷ ids) k zero p h e = first-here k i ids e ∙ rw add-zero
   first_some (i ∷ ids) k (suc j) p h e =
       let next : suc k + j ≡ k + suc j = omega arith in
       first-later k i ids (lookup m i) refl (p 0 (omega arith))
       ∙ first_some ids (suc k) j (λ a b. p (suc a) (omega arith)) (omega arith) e
-      ∙ ap (λ (x : ℕ). some (absent_at x (get_or ids j 0))) next
+      ∙ ap (λ (x : ℕ). Some (absent_at x (get_or ids j 0))) next
 
   -- each id has bytes
-  first-none : (ids : List ℕ) (k : ℕ) → AllPresent m ids → first_absent m k ids ≡ none
+  first-none : (ids : List ℕ) (k : ℕ) → AllPresent m ids → first_absent m k ids ≡ None
   unfolding first_absent
   first-none [] k p = refl
   first-none (i ∷ ids) k p =
@@ -66,12 +66,12 @@ module _ (m : Memory) where
   present-all ids k f h j l = f.present j (omega arith)
 
 lossy-over : (m : Memory) (n : ℕ) (ids : List ℕ) → n < length (lossy (each (lookup m) ids))
-    → lossy_output m n ids none ≡ record { answer = record { number = 28; count = 0; place = length ids; value = 0 }; cells = [] }
+    → lossy_output m n ids None ≡ record { answer = record { number = 28; count = 0; place = length ids; value = 0 }; cells = [] }
 unfolding lossy_output
 lossy-over m n ids h = rw (lossy_output, lt-leb _ _ h)
 
 lossy-fits : (m : Memory) (n : ℕ) (ids : List ℕ) → length (lossy (each (lookup m) ids)) ≤ n
-    → lossy_output m n ids none ≡ record {
+    → lossy_output m n ids None ≡ record {
       answer = whole (length (lossy (each (lookup m) ids)));
       cells = lossy (each (lookup m) ids);
     }
@@ -105,7 +105,7 @@ module _ (single : List ℤ) (offsets blob roots table ids before : List ℕ) (n
         (record { answer = refl; cells = refl })
 
     module _ (l : length ids ≤ k) where
-      all_there : first_absent whole-memory 0 ids ≡ none
+      all_there : first_absent whole-memory 0 ids ≡ None
       all_there = first-none whole-memory ids 0 (present-all whole-memory ids k (same-absent k f) l)
 
       -- 28: the text does not fit

@@ -1,7 +1,7 @@
 -- The steps of the passes of lossy decoding. Each says that what is left from here gives what was left from the start. Assumes nothing.
 use mathlib.Core.Path.{◌≡◌, refl, ap, sym, subst, ◌∙◌}
 use mathlib.Core.List.{List, [], ◌∷◌, ◌++◌, append_assoc, append-nil}
-use mathlib.Core.Option.{none}
+use Rattle.std.specs.Prelude.{None}
 use Prim.Native.Nat.{ℕ, ◌+◌, ◌≤◌, ◌<◌}
 use native.Mathlib.Omega.{arith}
 use native.Mathlib.Numerals.{add-one}
@@ -294,7 +294,7 @@ finish-size h r p = (
 
 -- ── a token whose bytes stand as they are ────────────────────────────
 
-pub as_they_are : (held : Held) (t : List ℕ) → held.len ≡ 0 → first_bad t ≡ none → AsTheyAre (held_of held) t
+pub as_they_are : (held : Held) (t : List ℕ) → held.len ≡ 0 → first_bad t ≡ None → AsTheyAre (held_of held) t
 as_they_are held t e w =
     let empty : held_of held ≡ [] = ap (λ (k : ℕ). take k (held.first ∷ held.second ∷ held.third ∷ [])) e in
     subst (λ (h : List ℕ). AsTheyAre h t) (sym empty) (well_formed_run t (well_formed_first t ∙ ap is_none w))

@@ -1,6 +1,6 @@
 -- The arithmetic of `hex_digit`, as it stands there. Assumes nothing.
 use mathlib.Core.Bool.{Bool, cond}
-use mathlib.Core.Option.{Option, none, some}
+use Rattle.std.specs.Prelude.{Option, None, Some}
 use Prim.Native.Nat.{ℕ, ◌+◌, ◌*◌, ◌/◌, ◌%◌}
 use lib.Bits.{bit_or}
 use lib.Dec.{eqb}
@@ -19,4 +19,4 @@ is_code b = eqb (bit_or b (32 * (b / 64))) (hex_code b)
 
 -- and so its answer
 abbrev pub by_code : ℕ → Option ℕ
-by_code b = cond (is_code b) (some (hex_value b)) none
+by_code b = cond (is_code b) (Some (hex_value b)) None

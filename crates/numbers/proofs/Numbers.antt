@@ -1,7 +1,8 @@
 -- Numbers in digits, read from a place of a list: one law for each way a turn of a reader can go. Assumes nothing.
 use mathlib.Core.Path.{◌≡◌, refl, sym, ap, ap₂, ◌∙◌, subst}
 use mathlib.Core.Bool.{Bool, true, false, ◌&&◌, false≢true}
-use mathlib.Core.Option.{Option, none, some, bind}
+use Rattle.std.specs.Prelude.{Option, None, Some}
+use Rattle.spec.specs.Options.{bind}
 use mathlib.Core.List.{List, [], ◌∷◌}
 use Prim.Native.Nat.{ℕ, suc, ◌+◌, ◌*◌, ◌-◌, ◌^◌, ◌≤◌, ◌<◌}
 use native.Mathlib.Nat.{add-zero, le_of_eq, le_trans, pow-le-pow_right}
@@ -41,15 +42,15 @@ module _ (low high : ℕ) {b : ℕ} where
 
 -- ── Decimal ──────────────────────────────────────────────────────────
 
-pub digit-yes : {b d : ℕ} → 0x30 ≤ b → b ≤ 0x39 → d ≡ b - 0x30 → digit b ≡ some d
+pub digit-yes : {b d : ℕ} → 0x30 ≤ b → b ≤ 0x39 → d ≡ b - 0x30 → digit b ≡ Some d
 unfolding digit
 digit-yes h k e = rw (in-range 0x30 0x39 h k, e)
 
-pub digit-below : {b : ℕ} → b < 0x30 → digit b ≡ none
+pub digit-below : {b : ℕ} → b < 0x30 → digit b ≡ None
 unfolding digit
 digit-below h = rw (below-range 0x30 0x39 h)
 
-pub digit-above : {b : ℕ} → 0x39 < b → digit b ≡ none
+pub digit-above : {b : ℕ} → 0x39 < b → digit b ≡ None
 unfolding digit
 digit-above h = rw (above-range 0x30 0x39 h)
 
@@ -60,18 +61,18 @@ rest limit v s = bind (digits_after v s) (at_most limit)
 
 module _ (limit : ℕ) (s : List ℕ) where
   -- a digit at the place: the number goes on behind it
-  pub digit-goes : (i v d : ℕ) → i < length s → digit (get_or s i 0) ≡ some d
+  pub digit-goes : (i v d : ℕ) → i < length s → digit (get_or s i 0) ≡ Some d
       → rest limit v (drop i s) ≡ rest limit (v * 10 + d) (drop (i + 1) s)
   unfolding rest
   digit-goes i v d h e = rw (drop-cons s i 0 h, e, add-one)
 
   -- another byte at the place: no number
-  pub digit-stops : (i v : ℕ) → i < length s → digit (get_or s i 0) ≡ none → rest limit v (drop i s) ≡ none
+  pub digit-stops : (i v : ℕ) → i < length s → digit (get_or s i 0) ≡ None → rest limit v (drop i s) ≡ None
   unfolding rest
   digit-stops i v h e = rw (drop-cons s i 0 h, e)
 
   -- the end: the value itself
-  pub digit-ends : (i v : ℕ) → length s ≤ i → v ≤ limit → rest limit v (drop i s) ≡ some v
+  pub digit-ends : (i v : ℕ) → length s ≤ i → v ≤ limit → rest limit v (drop i s) ≡ Some v
   unfolding rest
   digit-ends i v h k = rw (drop_of_length-le s h, le-leb v limit k)
 
@@ -84,39 +85,39 @@ module _ (limit : ℕ) (s : List ℕ) where
       go [] h = absurd (omega arith)
       go (b ∷ t) h = refl
 
-  pub digits-none : length s ≡ 0 → digits limit s ≡ none
+  pub digits-none : length s ≡ 0 → digits limit s ≡ None
   unfolding digits
   digits-none h = go s h
     where
-      go : (t : List ℕ) → length t ≡ 0 → digits limit t ≡ none
+      go : (t : List ℕ) → length t ≡ 0 → digits limit t ≡ None
       go [] h = refl
       go (b ∷ t) h = absurd (omega arith)
 
 -- a number above the limit stays above it
-pub too_much : (limit v : ℕ) (s : List ℕ) → limit < v → rest limit v s ≡ none
+pub too_much : (limit v : ℕ) (s : List ℕ) → limit < v → rest limit v s ≡ None
 unfolding rest
 too_much limit v [] h = rw (lt-leb v limit h)
 too_much limit v (b ∷ s) h = go (digit b) (λ (d : ℕ). too_much limit (v * 10 + d) s (omega arith))
   where
-    go : (o : Option ℕ) → ((d : ℕ) → bind (digits_after (v * 10 + d) s) (at_most limit) ≡ none)
-        → bind (bind o (λ d. digits_after (v * 10 + d) s)) (at_most limit) ≡ none
-    go none f = refl
-    go (some d) f = f d
+    go : (o : Option ℕ) → ((d : ℕ) → bind (digits_after (v * 10 + d) s) (at_most limit) ≡ None)
+        → bind (bind o (λ d. digits_after (v * 10 + d) s)) (at_most limit) ≡ None
+    go None f = refl
+    go (Some d) f = f d
 
 -- ── Hexadecimal ──────────────────────────────────────────────────────
 
 -- the same number, or none on both sides
 abbrev alike : Option ℕ → Option ℕ → Bool
-alike none none = true
-alike none (some w) = false
-alike (some v) none = false
-alike (some v) (some w) = eqb v w
+alike None None = true
+alike None (Some w) = false
+alike (Some v) None = false
+alike (Some v) (Some w) = eqb v w
 
 alike-eq : (o p : Option ℕ) → alike o p ≡ true → o ≡ p
-alike-eq none none e = refl
-alike-eq none (some w) e = absurd (false≢true e)
-alike-eq (some v) none e = absurd (false≢true e)
-alike-eq (some v) (some w) e = ap some (eqb-true v w e)
+alike-eq None None e = refl
+alike-eq None (Some w) e = absurd (false≢true e)
+alike-eq (Some v) None e = absurd (false≢true e)
+alike-eq (Some v) (Some w) e = ap Some (eqb-true v w e)
 
 -- it gives each of the 256 bytes what the definition gives, by computation
 all_alike : all_below 256 (λ b. alike (hex_digit b) (by_code b)) ≡ true
@@ -128,10 +129,10 @@ by_code_lem b h = alike-eq (hex_digit b) (by_code b) (below 256 (λ b. alike (he
 
 -- one law for each way that its test can come out
 module _ (b : ℕ) (byte : b < 256) where
-  pub hex-none : is_code b ≡ false → hex_digit b ≡ none
+  pub hex-none : is_code b ≡ false → hex_digit b ≡ None
   hex-none h = by_code_lem b byte ∙ rw h
 
-  pub hex-some : is_code b ≡ true → {v : ℕ} → v ≡ hex_value b → hex_digit b ≡ some v
+  pub hex-some : is_code b ≡ true → {v : ℕ} → v ≡ hex_value b → hex_digit b ≡ Some v
   hex-some h e = by_code_lem b byte ∙ rw (h, e)
 
 -- one digit is left, and others
@@ -140,20 +141,20 @@ suc_left count i h = omega arith
 
 -- a run read up to the place i, with the value v so far
 module _ (s : List ℕ) (count i v : ℕ) (more : i < count) where
-  pub hex-goes : (d : ℕ) → i < length s → hex_digit (get_or s i 0) ≡ some d
+  pub hex-goes : (d : ℕ) → i < length s → hex_digit (get_or s i 0) ≡ Some d
       → hex_after v (count - i) (drop i s) ≡ hex_after (v * 16 + d) (count - (i + 1)) (drop (i + 1) s)
   unfolding hex_after
   hex-goes d h e = rw (suc_left count i more, drop-cons s i 0 h, e, add-one)
 
-  pub hex-stops : i < length s → hex_digit (get_or s i 0) ≡ none → hex_after v (count - i) (drop i s) ≡ none
+  pub hex-stops : i < length s → hex_digit (get_or s i 0) ≡ None → hex_after v (count - i) (drop i s) ≡ None
   unfolding hex_after
   hex-stops h e = rw (suc_left count i more, drop-cons s i 0 h, e)
 
-  pub hex-short : length s ≤ i → hex_after v (count - i) (drop i s) ≡ none
+  pub hex-short : length s ≤ i → hex_after v (count - i) (drop i s) ≡ None
   unfolding hex_after
   hex-short h = rw (suc_left count i more, drop_of_length-le s h)
 
-pub hex_ends : (s : List ℕ) (count i v : ℕ) → count ≤ i → hex_after v (count - i) s ≡ some v
+pub hex_ends : (s : List ℕ) (count i v : ℕ) → count ≤ i → hex_after v (count - i) s ≡ Some v
 unfolding hex_after
 hex_ends s count i v h = let e : count - i ≡ 0 = omega arith in rw e
 
@@ -163,15 +164,15 @@ hex_fits i v h k = le_trans k (pow-le-pow_right (omega arith) h)
 
 -- ── Octal ────────────────────────────────────────────────────────────
 
-pub octal_yes : {b d : ℕ} → 0x30 ≤ b → b ≤ 0x37 → d ≡ b - 0x30 → octal_digit b ≡ some d
+pub octal_yes : {b d : ℕ} → 0x30 ≤ b → b ≤ 0x37 → d ≡ b - 0x30 → octal_digit b ≡ Some d
 unfolding octal_digit
 octal_yes h k e = rw (in-range 0x30 0x37 h k, e)
 
-pub octal_below : {b : ℕ} → b < 0x30 → octal_digit b ≡ none
+pub octal_below : {b : ℕ} → b < 0x30 → octal_digit b ≡ None
 unfolding octal_digit
 octal_below h = rw (below-range 0x30 0x37 h)
 
-pub octal_above : {b : ℕ} → 0x37 < b → octal_digit b ≡ none
+pub octal_above : {b : ℕ} → 0x37 < b → octal_digit b ≡ None
 unfolding octal_digit
 octal_above h = rw (above-range 0x30 0x37 h)
 
@@ -201,10 +202,10 @@ module _ (s : List ℕ) (most i v : ℕ) where
       cons : octal_after v (most - i) (drop i s) ≡ octal_after v (suc (most - (i + 1))) (get_or s i 0 ∷ drop (i + 1) s)
       cons = rw (suc_left most i more, drop-cons s i 0 h, add-one)
 
-      pub octal-stops : octal_digit (get_or s i 0) ≡ none → stops
+      pub octal-stops : octal_digit (get_or s i 0) ≡ None → stops
       octal-stops e = rw (cons, octal-none v (most - (i + 1)) (get_or s i 0) (drop (i + 1) s) e, add-zero)
 
-pub octal_goes : (s : List ℕ) (most i v : ℕ) → i < most → i < length s → (d : ℕ) → octal_digit (get_or s i 0) ≡ some d
+pub octal_goes : (s : List ℕ) (most i v : ℕ) → i < most → i < length s → (d : ℕ) → octal_digit (get_or s i 0) ≡ Some d
     → ahead s most (i + 1) (v * 8 + d) ≡ ahead s most i v
 octal_goes s most i v more h d e =
     sym (ap (behind i) (cons s most i v more h ∙ octal-some v (most - (i + 1)) (get_or s i 0) (drop (i + 1) s) d e)

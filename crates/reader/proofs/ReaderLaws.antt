@@ -1,7 +1,7 @@
 -- What the reader gives out is the lossy text; laws of its runs, and bounds. Assumes nothing.
 use mathlib.Core.Path.{◌≡◌, refl, ap, ◌∙◌, sym}
 use mathlib.Core.Bool.{Bool, true, false, cond}
-use mathlib.Core.Option.{Option, none, some}
+use Rattle.std.specs.Prelude.{Option, None, Some}
 use mathlib.Core.List.{List, [], ◌∷◌, ◌++◌, append_assoc, append-nil}
 use Prim.Native.Nat.{ℕ, zero, suc, ◌≤◌}
 use native.Mathlib.Omega.{arith}
@@ -36,17 +36,17 @@ unfolding start follow
 start_right b = go (after b) refl
   where
     go : (o : Option (List Range)) → after b ≡ o → Right [] b (begun o b)
-    go none e = (
+    go None e = (
       nothing,
       λ s. lossy-other (b ∷ s) (omega arith) (bad 1) (rw (step_cons b s, e)) refl,
       λ s w. absurd (clash w (well-formed-other (b ∷ s) (omega arith) (bad 1) (rw (step_cons b s, e)) refl)),
     )
-    go (some []) e = (
+    go (Some []) e = (
       nothing,
       λ s. lossy-char (b ∷ s) (omega arith) 1 (rw (step_cons b s, e)),
       λ s w. (refl, sym (well-formed-char (b ∷ s) (omega arith) 1 (rw (step_cons b s, e))) ∙ w),
     )
-    go (some (r ∷ rs)) e = (begins b [] r rs (rw e) (λ s. rw (step_cons b s, e)), λ s. refl, λ s w. (refl, w))
+    go (Some (r ∷ rs)) e = (begins b [] r rs (rw e) (λ s. rw (step_cons b s, e)), λ s. refl, λ s w. (refl, w))
 
 module _ {A : Type 0} where
   snoc-length : (h : List A) (b : A) → length (h ++ b ∷ []) ≡ suc (length h)
@@ -164,7 +164,7 @@ unfolding rule_for
 rule_few [] f b = omega arith
 rule_few (r ∷ rs) f b = go (within r.first b) (rule_few rs f.1 b)
   where
-    go : (c : Bool) → length (followers (rule_for rs b)) ≤ 3 → length (followers (cond c (some r.others) (rule_for rs b))) ≤ 3
+    go : (c : Bool) → length (followers (rule_for rs b)) ≤ 3 → length (followers (cond c (Some r.others) (rule_for rs b))) ≤ 3
     go true k = f.0
     go false k = k
 
@@ -178,9 +178,9 @@ unfolding start
 start-few b = go (after b)
   where
     go : (o : Option (List Range)) → (length (begun o b).held ≤ 3) × (length (begun o b).out ≤ 3)
-    go none = omega arith
-    go (some []) = omega arith
-    go (some (r ∷ rs)) = omega arith
+    go None = omega arith
+    go (Some []) = omega arith
+    go (Some (r ∷ rs)) = omega arith
 
 -- two more bytes can follow only one or two
 pub wants-two : (h : List ℕ) (r q : Range) (rs : List Range) → wants h ≡ r ∷ q ∷ rs → length h ≤ 2

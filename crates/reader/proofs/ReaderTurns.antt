@@ -1,7 +1,7 @@
 -- The turns of the lossy reader, as the code's tests tell them apart. Assumes nothing.
 use mathlib.Core.Path.{◌≡◌, refl, ap, ◌∙◌, sym}
 use mathlib.Core.Bool.{true, false}
-use mathlib.Core.Option.{none, some}
+use Rattle.std.specs.Prelude.{None, Some}
 use mathlib.Core.List.{List, [], ◌∷◌, ◌++◌}
 use Prim.Native.Nat.{ℕ, zero, suc, ◌-◌, ◌≤◌, ◌<◌}
 use native.Mathlib.Nat.{sub-zero, zero-sub, suc-sub-suc}
@@ -15,11 +15,11 @@ use Rattle.utf8.specs.Means.{ranges}
 use Rattle.utf8.proofs.Ranges.{after-at, after-longer}
 
 module _ (b : ℕ) where
-  pub start_none : none ≡ after b → record { out = replacement; held = [] } ≡ start b
+  pub start_none : None ≡ after b → record { out = replacement; held = [] } ≡ start b
   unfolding start
   start_none e = rw (sym e)
 
-  pub start-whole : (n low high : ℕ) → some (ranges n low high) ≡ after b → n ≡ 0 → record { out = b ∷ []; held = [] } ≡ start b
+  pub start-whole : (n low high : ℕ) → Some (ranges n low high) ≡ after b → n ≡ 0 → record { out = b ∷ []; held = [] } ≡ start b
   unfolding start
   start-whole n low high e z = rw (← e, z)
 
@@ -27,7 +27,7 @@ module _ (b : ℕ) where
   unfolding grammar
   start_plain h = start-whole 0 0 0 (sym (after-at 0 b (omega arith))) refl
 
-  pub start-more : (n low high : ℕ) → some (ranges n low high) ≡ after b → (n ≡ 0 → ⊥) → record { out = []; held = b ∷ [] } ≡ start b
+  pub start-more : (n low high : ℕ) → Some (ranges n low high) ≡ after b → (n ≡ 0 → ⊥) → record { out = []; held = b ∷ [] } ≡ start b
   unfolding start
   start-more zero low high e z = absurd (z refl)
   start-more (suc n) low high e z = rw (← e)
@@ -35,7 +35,7 @@ module _ (b : ℕ) where
 no_ranges : (n low high : ℕ) → n ≡ 0 → length (ranges n low high) ≡ 0
 no_ranges n low high z = rw z
 
-pub start-long : (b n low high : ℕ) → 0x80 ≤ b → some (ranges n low high) ≡ after b → record { out = []; held = b ∷ [] } ≡ start b
+pub start-long : (b n low high : ℕ) → 0x80 ≤ b → Some (ranges n low high) ≡ after b → record { out = []; held = b ∷ [] } ≡ start b
 start-long b n low high h e = start-more b n low high e (λ z.
     omega (arith, after-longer b (ranges n low high) h e, no_ranges n low high z))
 
@@ -70,11 +70,11 @@ unfolding wants
 wants-nil = refl
 
 module _ (a : ℕ) (h : List ℕ) where
-  wants-none : none ≡ after a → [] ≡ wants (a ∷ h)
+  wants-none : None ≡ after a → [] ≡ wants (a ∷ h)
   unfolding wants
   wants-none e = rw (← e, drop-nil (length h))
 
-  pub wants-some : {rs : List Range} → some rs ≡ after a → drop (length h) rs ≡ wants (a ∷ h)
+  pub wants-some : {rs : List Range} → Some rs ≡ after a → drop (length h) rs ≡ wants (a ∷ h)
   unfolding wants
   wants-some e = rw (← e)
 
@@ -88,10 +88,10 @@ drop-ranges p zero low high = rw (zero-sub (suc p))
 drop-ranges p (suc n) low high = rw (suc-sub-suc n p) (drop-replicate p n tail)
 
 module _ (n a b c : ℕ) (z : n ≡ 0 → ⊥) where
-  pub held_none : none ≡ after a → [] ≡ wants (take n (a ∷ b ∷ c ∷ []))
+  pub held_none : None ≡ after a → [] ≡ wants (take n (a ∷ b ∷ c ∷ []))
   held_none = go n z
     where
-      go : (n : ℕ) → (n ≡ 0 → ⊥) → none ≡ after a → [] ≡ wants (take n (a ∷ b ∷ c ∷ []))
+      go : (n : ℕ) → (n ≡ 0 → ⊥) → None ≡ after a → [] ≡ wants (take n (a ∷ b ∷ c ∷ []))
       go zero z e = absurd (z refl)
       go (suc n) z e = wants-none a (take n (b ∷ c ∷ [])) e
 

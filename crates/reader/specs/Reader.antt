@@ -2,7 +2,7 @@
 -- out what they and the next byte settle. That what it gives out is the lossy text is `lossy-run` in
 -- proofs/ReaderLaws.antt. Assumes nothing.
 use Rattle.std.specs.Prelude.{cond, List, [], ◌∷◌, ◌++◌, ℕ, length, drop}
-use Rattle.std.proofs.Math.Option.{Option, none, some}
+use Rattle.std.specs.Prelude.{Option, None, Some}
 use Rattle.spec.specs.Utf8.{Range, within, after, replacement}
 
 -- ── One byte ─────────────────────────────────────────────────────────
@@ -13,8 +13,8 @@ pub record Turn : Type 0 where
   pub held : List ℕ
 
 abbrev pub followers : Option (List Range) → List Range
-followers none = []
-followers (some rs) = rs
+followers None = []
+followers (Some rs) = rs
 
 -- the ranges of the bytes that must follow the held ones, by the rule of the first of them
 unfoldable pub wants : List ℕ → List Range
@@ -28,8 +28,8 @@ taken [] h = record { out = h; held = [] }
 taken (r ∷ rs) h = record { out = []; held = h }
 
 abbrev pub begun : Option (List Range) → ℕ → Turn
-begun none b = record { out = replacement; held = [] }
-begun (some rs) b = taken rs (b ∷ [])
+begun None b = record { out = replacement; held = [] }
+begun (Some rs) b = taken rs (b ∷ [])
 
 -- a byte where none is held
 unfoldable pub start : ℕ → Turn

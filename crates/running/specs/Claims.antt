@@ -4,7 +4,7 @@
 -- C. It goes on from the bytes that it holds. Assumes nothing.
 use Rattle.std.specs.Prelude.{◌≡◌, refl, ◌≢◌, ◌↔◌, ◌⊎◌, true, ℕ, suc, pred, ◌<◌, length}
 use Rattle.std.proofs.Common.{sym, ◌∙◌, ap, inl, inr, arith}
-use Rattle.std.proofs.Math.Option.{Option, none, some}
+use Rattle.std.specs.Prelude.{Option, None, Some}
 use mathlib.Core.List.{List, [], ◌∷◌, ◌++◌, append-nil, Memᴰ as Mem}
 use Rattle.spec.specs.Lists.{Bytes}
 use Rattle.spec.specs.Token.{Token, longest, undecided}
@@ -57,7 +57,7 @@ scan-token : (ts : List Token) → Valid ts → (u : Token) → Mem u ts → (po
     → scan_at ts pos 0 s ≡ record { ids = u.id ∷ []; end = done }
 scan-token ts v u m pos [] e = absurd (omega (arith, v.nonempty u m, ap length e))
 scan-token ts v u m pos (b ∷ s) e =
-    let l : longest ts (b ∷ s) ≡ some u = ap (longest ts) (sym e) ∙ longest-self ts v u m in
+    let l : longest ts (b ∷ s) ≡ Some u = ap (longest ts) (sym e) ∙ longest-self ts v u m in
     let k : pred (length u.bytes) ≡ length s = omega (arith, ap length e) in
     scan-some ts pos b s u l ∙ rw (k, scan-all)
 
@@ -92,8 +92,8 @@ module _ (ts : List Token) (v : Valid ts) (pos : ℕ) where
   apart-token u m (b ∷ s) l = go (longest ts (b ∷ s)) refl
     where
       go : (o : Option Token) → longest ts (b ∷ s) ≡ o → Apart (u.id ∷ []) (scan_at ts pos 0 (b ∷ s)).ids
-      go none e = rw (scan-none ts pos b s e) tt
-      go (some t) e =
+      go None e = rw (scan-none ts pos b s e) tt
+      go (Some t) e =
           let (n, w, top) = (longest-iff ts v (b ∷ s) t).0 e in
           rw (scan-some ts pos b s t e) (λ q. omega (
             arith,

@@ -3,7 +3,7 @@
 use Rattle.std.specs.Prelude.{◌≡◌, refl, ◌≢◌, Bool, true, false, ◌&&◌, ◌||◌, ℕ, zero, suc, pred, ◌<◌, eqb, length}
 use Rattle.std.proofs.Common.{sym, ◌∙◌, ap, eqb-true}
 use Rattle.std.proofs.lemmas.Bool.{false≢true}
-use Rattle.std.proofs.Math.Option.{Option, none, some}
+use Rattle.std.specs.Prelude.{Option, None, Some}
 use mathlib.Core.List.Memᴰ.{head as here}
 use mathlib.Core.List.Memᴰ.{tail as there}
 use mathlib.Core.List.{List, [], ◌∷◌, ◌++◌, Memᴰ as Mem}
@@ -40,7 +40,7 @@ seen-token (t ∷ ts) p e = go (same p t.bytes) refl e (seen-token ts p)
         (u, there m, q)
 
 -- some token begins every string of bytes
-full-matches : (ts : List Token) → Full ts → (b : ℕ) (s : List ℕ) → b < 256 → longest ts (b ∷ s) ≢ none
+full-matches : (ts : List Token) → Full ts → (b : ℕ) (s : List ℕ) → b < 256 → longest ts (b ∷ s) ≢ None
 full-matches ts f b s l e =
     let (t, m, q) = seen-token ts (b ∷ []) (f b l) in
     (longest-none_iff ts (b ∷ s)).0 e t m (s, ap (λ (p : List ℕ). p ++ s) q)
@@ -53,8 +53,8 @@ full_from ts f pos zero (b ∷ s) h = go (longest ts (b ∷ s)) refl (λ k. full
   where
     go : (m : Option Token) → longest ts (b ∷ s) ≡ m → ((k : ℕ) → (scan_at ts (suc pos) k s).end ≡ done)
         → (scan_at ts pos 0 (b ∷ s)).end ≡ done
-    go none e ih = absurd (full-matches ts f b s h.0 e)
-    go (some t) e ih = rw (scan-some ts pos b s t e) (ih (pred (length t.bytes)))
+    go None e ih = absurd (full-matches ts f b s h.0 e)
+    go (Some t) e ih = rw (scan-some ts pos b s t e) (ih (pred (length t.bytes)))
 
 pub scan-full : (ts : List Token) → Full ts → (s : List ℕ) → Bytes s → (scan ts s).end ≡ done
 scan-full ts f s h = full_from ts f 0 0 s h

@@ -3,7 +3,7 @@
 use Rattle.std.specs.Prelude.{◌≡◌, refl, ◌≢◌, ◌↔◌, ◌⊎◌, Bool, true, false, ◌||◌, cond, ℕ, ◌≤◌, ltb, length}
 use Rattle.std.proofs.Common.{sym, ◌∙◌, ap, inl, inr, true≢false, arith, ltb-true, ltb-false, take_at}
 use Rattle.std.proofs.lemmas.Bool.{false≢true}
-use Rattle.std.proofs.Math.Option.{Option, none, some}
+use Rattle.std.specs.Prelude.{Option, None, Some}
 use mathlib.Core.List.Memᴰ.{head as here}
 use mathlib.Core.List.Memᴰ.{tail as there}
 use mathlib.Core.List.{List, [], ◌∷◌, ◌++◌, append-nil, nil≢cons, Memᴰ as Mem}
@@ -18,42 +18,42 @@ use Rattle.running.specs.Prefixes.{fits≢short, fits≢off, short≢off, fits_i
 
 -- the token is one that fits, and none that fits is longer; or none fits
 abbrev pub Best : List Token → List ℕ → Option Token → Type 0
-Best ts s none = (u : Token) → Mem u ts → fit u.bytes s ≢ fits
-Best ts s (some t) =
+Best ts s None = (u : Token) → Mem u ts → fit u.bytes s ≢ fits
+Best ts s (Some t) =
     Mem t ts × (fit t.bytes s ≡ fits) × ((u : Token) → Mem u ts → fit u.bytes s ≡ fits → length u.bytes ≤ length t.bytes)
 
 module _ (t : Token) (ts : List Token) (s : List ℕ) where
-  best_none : fit t.bytes s ≢ fits → Best ts s none → Best (t ∷ ts) s none
+  best_none : fit t.bytes s ≢ fits → Best ts s None → Best (t ∷ ts) s None
   best_none n h u (here e) f = n (ap (λ (v : Token). fit v.bytes s) (sym e) ∙ f)
   best_none n h u (there m) f = h u m f
 
-  top-other : (v : Token) → fit t.bytes s ≢ fits → Best ts s (some v)
+  top-other : (v : Token) → fit t.bytes s ≢ fits → Best ts s (Some v)
       → (u : Token) → Mem u (t ∷ ts) → fit u.bytes s ≡ fits → length u.bytes ≤ length v.bytes
   top-other v n h u (here e) f = absurd (n (ap (λ (v : Token). fit v.bytes s) (sym e) ∙ f))
   top-other v n h u (there m) f = h.2 u m f
 
   -- a token that does not fit changes nothing
   best-other : (m : Option Token) → fit t.bytes s ≢ fits → Best ts s m → Best (t ∷ ts) s m
-  best-other none n h = best_none n h
-  best-other (some v) n h = (there h.0, h.1, top-other v n h)
+  best-other None n h = best_none n h
+  best-other (Some v) n h = (there h.0, h.1, top-other v n h)
 
   top-here : (k : ℕ) → length t.bytes ≤ k → ((u : Token) → Mem u ts → fit u.bytes s ≡ fits → length u.bytes ≤ k)
       → (u : Token) → Mem u (t ∷ ts) → fit u.bytes s ≡ fits → length u.bytes ≤ k
   top-here k l h u (here p) f = omega (arith, ap (λ (w : Token). length w.bytes) p)
   top-here k l h u (there m) f = h u m f
 
-  best-first : fit t.bytes s ≡ fits → Best ts s none → Best (t ∷ ts) s (some t)
+  best-first : fit t.bytes s ≡ fits → Best ts s None → Best (t ∷ ts) s (Some t)
   best-first f h = (here refl, f, top-here (length t.bytes) (omega arith) (λ u m g. absurd (h u m g)))
 
-  best-two : (v : Token) → fit t.bytes s ≡ fits → Best ts s (some v)
-      → (c : Bool) → ltb (length v.bytes) (length t.bytes) ≡ c → Best (t ∷ ts) s (some (cond c t v))
+  best-two : (v : Token) → fit t.bytes s ≡ fits → Best ts s (Some v)
+      → (c : Bool) → ltb (length v.bytes) (length t.bytes) ≡ c → Best (t ∷ ts) s (Some (cond c t v))
   best-two v f h true e =
       (here refl, f, top-here (length t.bytes) (omega arith) (λ u m g. omega (arith, h.2 u m g, ltb-true)))
   best-two v f h false e = (there h.0, h.1, top-here (length v.bytes) (omega (arith, ltb-false)) h.2)
 
   best-pick : (f : Fit) → fit t.bytes s ≡ f → (m : Option Token) → Best ts s m → Best (t ∷ ts) s (pick f t m)
-  best-pick fits f none h = best-first f h
-  best-pick fits f (some v) h = best-two v f h (ltb (length v.bytes) (length t.bytes)) refl
+  best-pick fits f None h = best-first f h
+  best-pick fits f (Some v) h = best-two v f h (ltb (length v.bytes) (length t.bytes)) refl
   best-pick short f m h = best-other m (λ g. fits≢short (sym g ∙ f)) h
   best-pick off f m h = best-other m (λ g. fits≢off (sym g ∙ f)) h
 
@@ -76,41 +76,41 @@ IsLongest ts s t =
     Mem t ts × Prefix t.bytes s × ((u : Token) → Mem u ts → Prefix u.bytes s → length u.bytes ≤ length t.bytes)
 
 -- "the longest token there"
-pub longest-iff : (ts : List Token) → Valid ts → (s : List ℕ) (t : Token) → (longest ts s ≡ some t) ↔ IsLongest ts s t
+pub longest-iff : (ts : List Token) → Valid ts → (s : List ℕ) (t : Token) → (longest ts s ≡ Some t) ↔ IsLongest ts s t
 longest-iff ts v s t = (λ e. to (rw e at (best ts s)), λ w. from w (longest ts s) (best ts s))
   where
-    to : Best ts s (some t) → IsLongest ts s t
+    to : Best ts s (Some t) → IsLongest ts s t
     to h = (h.0, (fits_iff t.bytes s).0 h.1, λ u m w. h.2 u m ((fits_iff u.bytes s).1 w))
 
-    from : IsLongest ts s t → (m : Option Token) → Best ts s m → m ≡ some t
-    from w none h = absurd (h t w.0 ((fits_iff t.bytes s).1 w.1))
-    from w (some u) h =
+    from : IsLongest ts s t → (m : Option Token) → Best ts s m → m ≡ Some t
+    from w None h = absurd (h t w.0 ((fits_iff t.bytes s).1 w.1))
+    from w (Some u) h =
         let (r, p) = w.1 in
         let (r', p') = (fits_iff u.bytes s).0 h.1 in
         let n : length t.bytes ≡ length u.bytes =
         omega (arith, w.2 u h.0 (r', p'), h.2 t w.0 ((fits_iff t.bytes s).1 (r, p))) in
         let b : u.bytes ≡ t.bytes =
         cc (take_at t.bytes r (length u.bytes) n, take_at u.bytes r' (length u.bytes) refl) in
-        ap some (bytes_tell ts v.distinct u t h.0 w.0 b)
+        ap Some (bytes_tell ts v.distinct u t h.0 w.0 b)
 
-pub longest-none_iff : (ts : List Token) (s : List ℕ) → (longest ts s ≡ none) ↔ ((u : Token) → Mem u ts → Prefix u.bytes s → ⊥)
+pub longest-none_iff : (ts : List Token) (s : List ℕ) → (longest ts s ≡ None) ↔ ((u : Token) → Mem u ts → Prefix u.bytes s → ⊥)
 longest-none_iff ts s = (λ e u m w. to (rw e at (best ts s)) u m w, λ w. from w (longest ts s) (best ts s))
   where
-    to : Best ts s none → (u : Token) → Mem u ts → Prefix u.bytes s → ⊥
+    to : Best ts s None → (u : Token) → Mem u ts → Prefix u.bytes s → ⊥
     to h u m w = h u m ((fits_iff u.bytes s).1 w)
 
-    from : ((u : Token) → Mem u ts → Prefix u.bytes s → ⊥) → (m : Option Token) → Best ts s m → m ≡ none
-    from w none h = refl
-    from w (some u) h = absurd (w u h.0 ((fits_iff u.bytes s).0 h.1))
+    from : ((u : Token) → Mem u ts → Prefix u.bytes s → ⊥) → (m : Option Token) → Best ts s m → m ≡ None
+    from w None h = refl
+    from w (Some u) h = absurd (w u h.0 ((fits_iff u.bytes s).0 h.1))
 
 -- a token is the longest one at its own bytes
-pub longest-self : (ts : List Token) → Valid ts → (u : Token) → Mem u ts → longest ts u.bytes ≡ some u
+pub longest-self : (ts : List Token) → Valid ts → (u : Token) → Mem u ts → longest ts u.bytes ≡ Some u
 longest-self ts v u m =
     (longest-iff ts v u.bytes u).1 (m, ([], sym (append-nil u.bytes)), λ w n b. prefix_length w.bytes u.bytes b)
 
 -- the longest token stays the longest in a prefix of the string that still has it
-pub longest-cut : (ts : List Token) → Valid ts → (s p : List ℕ) (t : Token) → longest ts s ≡ some t → Prefix p s → Prefix t.bytes p
-    → longest ts p ≡ some t
+pub longest-cut : (ts : List Token) → Valid ts → (s p : List ℕ) (t : Token) → longest ts s ≡ Some t → Prefix p s → Prefix t.bytes p
+    → longest ts p ≡ Some t
 longest-cut ts v s p t e w b =
     let (m, f, top) = (longest-iff ts v s t).0 e in
     (longest-iff ts v p t).1 (m, b, λ u n c. top u n (prefix_trans u.bytes p s c w))

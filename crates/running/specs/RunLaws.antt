@@ -2,7 +2,7 @@
 -- when more bytes come, to the running form or to the scan of them all. Assumes nothing.
 use Rattle.std.specs.Prelude.{◌≡◌, refl, ◌≢◌, ◌⊎◌, Bool, true, false, ℕ, zero, suc, pred, ◌+◌, ◌≤◌, length, drop}
 use Rattle.std.proofs.Common.{sym, ◌∙◌, ap, inl, inr, arith}
-use Rattle.std.proofs.Math.Option.{Option, none, some}
+use Rattle.std.specs.Prelude.{Option, None, Some}
 use mathlib.Core.List.{List, [], ◌∷◌, ◌++◌, append_assoc, Memᴰ as Mem}
 use Rattle.spec.specs.Token.{Token, longest, proper_prefix, undecided, joined}
 use Rattle.spec.specs.Plain.{Prefix}
@@ -29,12 +29,12 @@ pub run-waits : (ts : List Token) (pos b : ℕ) (s : List ℕ) → proper_prefix
 unfolding run_at undecided
 run-waits ts pos b s e = rw (e, run_at)
 
-pub run_none : (ts : List Token) (pos b : ℕ) (s : List ℕ) → proper_prefix ts (b ∷ s) ≡ false → longest ts (b ∷ s) ≡ none
+pub run_none : (ts : List Token) (pos b : ℕ) (s : List ℕ) → proper_prefix ts (b ∷ s) ≡ false → longest ts (b ∷ s) ≡ None
     → run_at ts pos 0 (b ∷ s) ≡ stuck_with pos b
 unfolding run_at undecided
 run_none ts pos b s c e = rw (c, run_at) (rw e)
 
-pub run-some : (ts : List Token) (pos b : ℕ) (s : List ℕ) (t : Token) → proper_prefix ts (b ∷ s) ≡ false → longest ts (b ∷ s) ≡ some t
+pub run-some : (ts : List Token) (pos b : ℕ) (s : List ℕ) (t : Token) → proper_prefix ts (b ∷ s) ≡ false → longest ts (b ∷ s) ≡ Some t
     → run_at ts pos 0 (b ∷ s) ≡ ran t.id (run_at ts (suc pos) (pred (length t.bytes)) s)
 unfolding run_at undecided
 run-some ts pos b s t c e = rw (c, run_at) (rw e)
@@ -59,10 +59,10 @@ view ts pos b s = go (proper_prefix ts (b ∷ s)) refl (longest ts (b ∷ s)) re
     go true c m l h =
         let (u, n, p) = (proper_iff ts (b ∷ s)).0 c in
         waits u n p (run-waits ts pos b s c)
-    go false c none l h = fails (λ y. scan-none ts pos b (s ++ y) (longest-stable ts (b ∷ s) y c ∙ l))
+    go false c None l h = fails (λ y. scan-none ts pos b (s ++ y) (longest-stable ts (b ∷ s) y c ∙ l))
         (λ y. run_none ts pos b (s ++ y) (proper_stable ts (b ∷ s) y c) (longest-stable ts (b ∷ s) y c ∙ l))
         (run_none ts pos b s c l)
-    go false c (some t) l h =
+    go false c (Some t) l h =
         let (m, f, top) = h in
         let w = (fits_iff t.bytes (b ∷ s)).0 f in
         steps t m w (omega (arith, prefix_length t.bytes (b ∷ s) w))

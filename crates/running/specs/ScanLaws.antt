@@ -3,7 +3,7 @@
 use Rattle.std.specs.Prelude.{◌≡◌, refl, ◌≢◌, true, List, [], ◌∷◌, ◌++◌, ℕ, zero, suc, pred, ◌+◌, ◌≤◌, ◌<◌, length, take, drop, get_or}
 use Rattle.std.proofs.Common.{sym, ◌∙◌, ap, append_assoc, add-zero, arith, length-append, take-append-drop, length-take-le, take_at}
 use Rattle.std.proofs.Common.{drop_at}
-use Rattle.std.proofs.Math.Option.{Option, none, some}
+use Rattle.std.specs.Prelude.{Option, None, Some}
 use Rattle.std.proofs.lemmas.List.{get_or_at}
 use Rattle.spec.specs.Lists.{all}
 use Rattle.spec.specs.Token.{Token, longest, joined, present}
@@ -23,11 +23,11 @@ nowhere pos b = record { ids = []; end = failed pos b }
 
 -- ---- the definition, case by case
 
-pub scan-none : (ts : List Token) (pos b : ℕ) (s : List ℕ) → longest ts (b ∷ s) ≡ none → scan_at ts pos 0 (b ∷ s) ≡ nowhere pos b
+pub scan-none : (ts : List Token) (pos b : ℕ) (s : List ℕ) → longest ts (b ∷ s) ≡ None → scan_at ts pos 0 (b ∷ s) ≡ nowhere pos b
 unfolding scan_at
 scan-none ts pos b s e = rw (e, scan_at)
 
-pub scan-some : (ts : List Token) (pos b : ℕ) (s : List ℕ) (t : Token) → longest ts (b ∷ s) ≡ some t
+pub scan-some : (ts : List Token) (pos b : ℕ) (s : List ℕ) (t : Token) → longest ts (b ∷ s) ≡ Some t
     → scan_at ts pos 0 (b ∷ s) ≡ scanned t.id (scan_at ts (suc pos) (pred (length t.bytes)) s)
 unfolding scan_at
 scan-some ts pos b s t e = rw (e, scan_at)
@@ -52,14 +52,14 @@ pub drop_token : (p : List ℕ) (b : ℕ) (s : List ℕ) → 1 ≤ length p → 
 drop_token [] b s n = absurd (omega arith)
 drop_token (a ∷ p) b s n = refl
 
-pub longest-fits : (ts : List Token) → Valid ts → (s : List ℕ) (t : Token) → longest ts s ≡ some t
+pub longest-fits : (ts : List Token) → Valid ts → (s : List ℕ) (t : Token) → longest ts s ≡ Some t
     → (1 ≤ length t.bytes) × (length t.bytes ≤ length s)
 longest-fits ts v s t e =
     let (m, f, top) = (longest-iff ts v s t).0 e in
     (v.nonempty t m, prefix_length t.bytes s f)
 
 -- "the scan finds at each position, from 0, the longest token there; its length is the step"
-pub scan_step : (ts : List Token) → Valid ts → (pos b : ℕ) (s : List ℕ) (t : Token) → longest ts (b ∷ s) ≡ some t
+pub scan_step : (ts : List Token) → Valid ts → (pos b : ℕ) (s : List ℕ) (t : Token) → longest ts (b ∷ s) ≡ Some t
     → scan_at ts pos 0 (b ∷ s) ≡ scanned t.id (scan_at ts (pos + length t.bytes) 0 (drop (length t.bytes) (b ∷ s)))
 scan_step ts v pos b s t e =
     let (n, l) = longest-fits ts v (b ∷ s) t e in
@@ -67,7 +67,7 @@ scan_step ts v pos b s t e =
     cc (scan-some ts pos b s t e, scan-skip ts (suc pos) (pred (length t.bytes)) s (omega arith), drop_token t.bytes b s n)
 
 -- "It fails where none matches before the end; its ids are those found up to there."
-pub scan-fail : (ts : List Token) (pos b : ℕ) (s : List ℕ) → longest ts (b ∷ s) ≡ none
+pub scan-fail : (ts : List Token) (pos b : ℕ) (s : List ℕ) → longest ts (b ∷ s) ≡ None
     → scan_at ts pos 0 (b ∷ s) ≡ record { ids = []; end = failed pos b }
 scan-fail = scan-none
 
@@ -81,8 +81,8 @@ present-from ts pos zero (b ∷ s) = go (longest ts (b ∷ s)) refl (best ts (b 
   where
     go : (m : Option Token) → longest ts (b ∷ s) ≡ m → Best ts (b ∷ s) m
         → ((k : ℕ) → all (present ts) (scan_at ts (suc pos) k s).ids ≡ true) → all (present ts) (scan_at ts pos 0 (b ∷ s)).ids ≡ true
-    go none e w ih = rw (scan-none ts pos b s e)
-    go (some t) e w ih = rw (scan-some ts pos b s t e, all, present-token ts t w.0) (ih (pred (length t.bytes)))
+    go None e w ih = rw (scan-none ts pos b s e)
+    go (Some t) e w ih = rw (scan-some ts pos b s t e, all, present-token ts t w.0) (ih (pred (length t.bytes)))
 
 pub ids_present : IdsPresent
 ids_present ts v s = present-from ts 0 0 s
@@ -106,8 +106,8 @@ done_from ts v pos zero (b ∷ s) l e = go (longest ts (b ∷ s)) refl (λ k l e
     go : (m : Option Token) → longest ts (b ∷ s) ≡ m
         → ((k : ℕ) → k ≤ length s → (scan_at ts (suc pos) k s).end ≡ done → joined ts (scan_at ts (suc pos) k s).ids ≡ drop k s)
         → joined ts (scan_at ts pos 0 (b ∷ s)).ids ≡ b ∷ s
-    go none q ih = absurd (done≢failed pos b (sym (rw (scan-none ts pos b s q) at e)))
-    go (some t) q ih =
+    go None q ih = absurd (done≢failed pos b (sym (rw (scan-none ts pos b s q) at e)))
+    go (Some t) q ih =
         let (m, f, top) = (longest-iff ts v (b ∷ s) t).0 q in
         let (n, l) = longest-fits ts v (b ∷ s) t q in
         let i = ih (pred (length t.bytes)) (omega arith) (rw (scan-some ts pos b s t q) at e) in
@@ -125,7 +125,7 @@ record Failing (ts : List Token) (pos k : ℕ) (s : List ℕ) (at b : ℕ) : Typ
   after : List ℕ
   input : drop k s ≡ before ++ b ∷ after
   place : at ≡ pos + k + length before
-  unmatched : longest ts (b ∷ after) ≡ none
+  unmatched : longest ts (b ∷ after) ≡ None
   decoded : joined ts (scan_at ts pos k s).ids ≡ before
   alone : scan_at ts pos k (take k s ++ before) ≡ record { ids = (scan_at ts pos k s).ids; end = done }
 
@@ -142,7 +142,7 @@ failing_skip ts pos k b₀ s at b f = record {
   alone = f.alone;
 }
 
-failing_here : (ts : List Token) (pos b : ℕ) (s : List ℕ) → longest ts (b ∷ s) ≡ none → Failing ts pos 0 (b ∷ s) pos b
+failing_here : (ts : List Token) (pos b : ℕ) (s : List ℕ) → longest ts (b ∷ s) ≡ None → Failing ts pos 0 (b ∷ s) pos b
 failing_here ts pos b s e = record {
   before = [];
   after = s;
@@ -153,7 +153,7 @@ failing_here ts pos b s e = record {
   alone = rw (scan-none ts pos b s e) (scan-nil ts pos);
 }
 
-failing_step : (ts : List Token) → Valid ts → (pos b₀ : ℕ) (s : List ℕ) (t : Token) → longest ts (b₀ ∷ s) ≡ some t → (at b : ℕ)
+failing_step : (ts : List Token) → Valid ts → (pos b₀ : ℕ) (s : List ℕ) (t : Token) → longest ts (b₀ ∷ s) ≡ Some t → (at b : ℕ)
     → Failing ts (suc pos) (pred (length t.bytes)) s at b → Failing ts pos 0 (b₀ ∷ s) at b
 failing_step ts v pos b₀ s t e at b f =
     let k = pred (length t.bytes) in
@@ -164,7 +164,7 @@ failing_step ts v pos b₀ s t e at b f =
     sym (append_assoc (take k s) f.before (b ∷ f.after)
     ∙ ap (λ (q : List ℕ). take k s ++ q) (sym f.input)
     ∙ take-append-drop k s) in
-    let c : longest ts (b₀ ∷ (take k s ++ f.before)) ≡ some t =
+    let c : longest ts (b₀ ∷ (take k s ++ f.before)) ≡ Some t =
     longest-cut ts v (b₀ ∷ s) (b₀ ∷ (take k s ++ f.before)) t e (b ∷ f.after, ap (λ (q : List ℕ). b₀ ∷ q) i)
     (f.before, ap (λ (q : List ℕ). q ++ f.before) (sym h)) in
     record {
@@ -187,12 +187,12 @@ failing_from ts v pos zero (b₀ ∷ s) l at b e = go (longest ts (b₀ ∷ s)) 
     go : (m : Option Token) → longest ts (b₀ ∷ s) ≡ m
         → ((k : ℕ) → k ≤ length s → (scan_at ts (suc pos) k s).end ≡ failed at b → Failing ts (suc pos) k s at b)
         → Failing ts pos 0 (b₀ ∷ s) at b
-    go none q ih =
+    go None q ih =
         let z : failed pos b₀ ≡ failed at b = rw (scan-none ts pos b₀ s q) at e in
         let p : pos ≡ at = cc in
         let c : b₀ ≡ b = cc in
         rw (← p, ← c) (failing_here ts pos b₀ s q)
-    go (some t) q ih =
+    go (Some t) q ih =
         let (n, l) = longest-fits ts v (b₀ ∷ s) t q in
         failing_step ts v pos b₀ s t q at b (ih (pred (length t.bytes)) (omega arith) (rw (scan-some ts pos b₀ s t q) at e))
 
@@ -201,7 +201,7 @@ failing_from ts v pos zero (b₀ ∷ s) l at b e = go (longest ts (b₀ ∷ s)) 
 pub record FailsAt (ts : List Token) (s : List ℕ) (at b : ℕ) : Type 0 where
   pub inside : at < length s
   pub byte : get_or s at 0 ≡ b
-  pub unmatched : longest ts (drop at s) ≡ none
+  pub unmatched : longest ts (drop at s) ≡ None
   pub decoded : joined ts (scan ts s).ids ≡ take at s
   pub alone : scan ts (take at s) ≡ record { ids = (scan ts s).ids; end = done }
 

@@ -1,7 +1,8 @@
 -- What each test of a line says of the whole reading. Assumes nothing.
 use mathlib.Core.Path.{◌≡◌, refl, sym, ap, ◌∙◌}
 use mathlib.Core.Bool.{Bool, true, false, cond}
-use mathlib.Core.Option.{Option, none, some, map}
+use Rattle.std.specs.Prelude.{Option, None, Some}
+use Rattle.std.specs.Option.{option_map}
 use mathlib.Core.List.{List, ◌++◌}
 use Prim.Native.Nat.{ℕ, zero, suc, ◌+◌, ◌-◌, ◌≤◌, ◌<◌}
 use native.Mathlib.Omega.{arith}
@@ -35,8 +36,8 @@ module _ {B : Type 0} (n : ℕ) (o : Option ℕ) (k : ℕ → Check B) where
   given-not e = go o e
     where
       go : (p : Option ℕ) → refuse n ≡ given n p pass → refuse n ≡ given n p k
-      go none q = refl
-      go (some v) q = let z : ◌≡◌ {A = ℕ} 0 1 = cc in absurd (omega arith)
+      go None q = refl
+      go (Some v) q = let z : ◌≡◌ {A = ℕ} 0 1 = cc in absurd (omega arith)
 
   -- one that is there
   pub given_is : (v : ℕ) → pass v ≡ given n o pass → given n o k ≡ k v
@@ -44,8 +45,8 @@ module _ {B : Type 0} (n : ℕ) (o : Option ℕ) (k : ℕ → Check B) where
   given_is v e = go o e
     where
       go : (p : Option ℕ) → pass v ≡ given n p pass → given n p k ≡ k v
-      go none q = let z : ◌≡◌ {A = ℕ} 0 1 = cc in absurd (omega arith)
-      go (some w) q = let z : w ≡ v = cc in ap k z
+      go None q = let z : ◌≡◌ {A = ℕ} 0 1 = cc in absurd (omega arith)
+      go (Some w) q = let z : w ≡ v = cc in ap k z
 
 -- ---- 12 to 15
 
@@ -53,35 +54,35 @@ module _ (edition : ℕ) (part : List ℕ) (wanted id : ℕ) where
   abbrev rest : List ℕ → Check Token
   rest bytes = length_rule wanted (record { id = id; bytes = bytes })
 
-  pub literal-bad : none ≡ map length (literal edition part) → refuse 12 ≡ given 12 (literal edition part) rest
+  pub literal-bad : None ≡ option_map length (literal edition part) → refuse 12 ≡ given 12 (literal edition part) rest
   unfolding given
   literal-bad e = go (literal edition part) e
     where
-      go : (o : Option (List ℕ)) → none ≡ map length o → refuse 12 ≡ given 12 o rest
-      go none q = refl
-      go (some bs) q = let z : ◌≡◌ {A = ℕ} 0 1 = cc in absurd (omega arith)
+      go : (o : Option (List ℕ)) → None ≡ option_map length o → refuse 12 ≡ given 12 o rest
+      go None q = refl
+      go (Some bs) q = let z : ◌≡◌ {A = ℕ} 0 1 = cc in absurd (omega arith)
 
   -- the bytes of a good literal, and how many
   record Good (n : ℕ) : Type 0 where
     bytes : List ℕ
-    is : literal edition part ≡ some bytes
+    is : literal edition part ≡ Some bytes
     read_is : (read edition part).bytes ≡ bytes
     count : length bytes ≡ n
 
-  good : (n : ℕ) → some n ≡ map length (literal edition part) → Good n
+  good : (n : ℕ) → Some n ≡ option_map length (literal edition part) → Good n
   unfolding literal
   good n e = go (read edition part).good refl e
     where
-      go : (b : Bool) → (read edition part).good ≡ b → some n ≡ map length (cond b (some (read edition part).bytes) none) → Good n
+      go : (b : Bool) → (read edition part).good ≡ b → Some n ≡ option_map length (cond b (Some (read edition part).bytes) None) → Good n
       go true p q = record {
         bytes = (read edition part).bytes;
-        is = ap (λ (c : Bool). cond c (some (read edition part).bytes) none) p;
+        is = ap (λ (c : Bool). cond c (Some (read edition part).bytes) None) p;
         read_is = refl;
         count = (let z : n ≡ length (read edition part).bytes = cc in sym z);
       }
       go false p q = let z : ◌≡◌ {A = ℕ} 0 1 = cc in absurd (omega arith)
 
-  module _ (n : ℕ) (e : some n ≡ map length (literal edition part)) (r : ℕ)
+  module _ (n : ℕ) (e : Some n ≡ option_map length (literal edition part)) (r : ℕ)
       (rule : (t : Token) → length t.bytes ≡ n → length_rule wanted t ≡ unless r (pass t)) where
     abbrev t : Token
     t = record { id = id; bytes = (good n e).bytes }

@@ -4,7 +4,7 @@
 -- says here is refused here. Assumes nothing.
 use mathlib.Core.Path.{◌≡◌, refl, ap, ◌∙◌}
 use mathlib.Core.Bool.{Bool, true, false, ◌||◌}
-use mathlib.Core.Option.{none, some}
+use Rattle.std.specs.Prelude.{None, Some}
 use mathlib.Core.List.{List, [], ◌∷◌, ◌++◌, append-nil}
 use Prim.Native.Nat.{ℕ, ◌-◌}
 use native.Mathlib.Nat.{sub_self}
@@ -56,7 +56,7 @@ v_counts : counts_of vv ≡ record { tokens = 5; nodes = 5; blob = 10; table = 5
 unfolding counts_of node_count blob_bytes table_words
 v_counts = refl
 
-v_text_is_utf8 : first_bad v_text ≡ none
+v_text_is_utf8 : first_bad v_text ≡ None
 unfolding first_bad
 v_text_is_utf8 = refl
 
@@ -255,17 +255,17 @@ decode_3_0 = decode_v _ _ ∙ refl
 -- ── Literals ─────────────────────────────────────────────────────────
 
 -- `'\x80'` is C2 80
-x80_in_string : literal 1 (0x27 ∷ 0x5C ∷ 0x78 ∷ 0x38 ∷ 0x30 ∷ 0x27 ∷ []) ≡ some (0xC2 ∷ 0x80 ∷ [])
+x80_in_string : literal 1 (0x27 ∷ 0x5C ∷ 0x78 ∷ 0x38 ∷ 0x30 ∷ 0x27 ∷ []) ≡ Some (0xC2 ∷ 0x80 ∷ [])
 unfolding literal
 x80_in_string = refl
 
 -- `b'\x80'` is 80
-x80_in_bytes : literal 1 (0x62 ∷ 0x27 ∷ 0x5C ∷ 0x78 ∷ 0x38 ∷ 0x30 ∷ 0x27 ∷ []) ≡ some (0x80 ∷ [])
+x80_in_bytes : literal 1 (0x62 ∷ 0x27 ∷ 0x5C ∷ 0x78 ∷ 0x38 ∷ 0x30 ∷ 0x27 ∷ []) ≡ Some (0x80 ∷ [])
 unfolding literal
 x80_in_bytes = refl
 
 -- `'\01'` is 00 31
-zero_then_one : literal 1 (0x27 ∷ 0x5C ∷ 0x30 ∷ 0x31 ∷ 0x27 ∷ []) ≡ some (0x00 ∷ 0x31 ∷ [])
+zero_then_one : literal 1 (0x27 ∷ 0x5C ∷ 0x30 ∷ 0x31 ∷ 0x27 ∷ []) ≡ Some (0x00 ∷ 0x31 ∷ [])
 unfolding literal
 zero_then_one = refl
 

@@ -1,27 +1,28 @@
 -- Numbers in decimal, hexadecimal and octal digits. A byte string is a list of numbers. Assumes nothing.
 use Rattle.std.specs.Prelude.{cond, List, [], ◌∷◌, ℕ, zero, suc, ◌+◌, ◌*◌, ◌-◌, leb}
-use Rattle.std.proofs.Math.Option.{Option, none, some, bind}
+use Rattle.std.specs.Prelude.{Option, None, Some}
+use Rattle.spec.specs.Options.{bind}
 use Rattle.spec.specs.Utf8.{◌to◌, within}
 
 -- ── Decimal ──────────────────────────────────────────────────────────
 
 -- the value of a digit, a byte from `0` to `9`
 unfoldable pub digit : ℕ → Option ℕ
-digit b = cond (within (0x30 to 0x39) b) (some (b - 0x30)) none
+digit b = cond (within (0x30 to 0x39) b) (Some (b - 0x30)) None
 
 -- the number that the digits of v and behind them those of s spell; none if a byte of s is no digit
 unfoldable pub digits_after : ℕ → List ℕ → Option ℕ
 unfolding bind digit
-digits_after v [] = some v
+digits_after v [] = Some v
 digits_after v (b ∷ s) = bind (digit b) (λ d. digits_after (v * 10 + d) s)
 
 unfoldable pub at_most : ℕ → ℕ → Option ℕ
-at_most limit v = cond (leb v limit) (some v) none
+at_most limit v = cond (leb v limit) (Some v) None
 
 -- The value of a number in digits. Refusals 6 and 11: "not all digits 0 to 9, or above" the limit; "Leading zeros are allowed".
 unfoldable pub digits : ℕ → List ℕ → Option ℕ
 unfolding bind at_most digits_after
-digits limit [] = none
+digits limit [] = None
 digits limit (b ∷ s) = bind (digits_after 0 (b ∷ s)) (at_most limit)
 
 -- ── Hexadecimal ──────────────────────────────────────────────────────
@@ -29,16 +30,16 @@ digits limit (b ∷ s) = bind (digits_after 0 (b ∷ s)) (at_most limit)
 -- the value of a hexadecimal digit: `0` to `9`, `a` to `f`, `A` to `F`
 unfoldable pub hex_digit : ℕ → Option ℕ
 hex_digit b =
-    cond (within (0x30 to 0x39) b) (some (b - 0x30))
-    (cond (within (0x61 to 0x66) b) (some (b - 0x61 + 10))
-    (cond (within (0x41 to 0x46) b) (some (b - 0x41 + 10))
-    none))
+    cond (within (0x30 to 0x39) b) (Some (b - 0x30))
+    (cond (within (0x61 to 0x66) b) (Some (b - 0x61 + 10))
+    (cond (within (0x41 to 0x46) b) (Some (b - 0x41 + 10))
+    None))
 
 -- the number that the digits of v and behind them the first n bytes of s spell; none if s is shorter or one of these is no digit
 unfoldable pub hex_after : ℕ → ℕ → List ℕ → Option ℕ
 unfolding bind hex_digit
-hex_after v zero s = some v
-hex_after v (suc n) [] = none
+hex_after v zero s = Some v
+hex_after v (suc n) [] = None
 hex_after v (suc n) (b ∷ s) = bind (hex_digit b) (λ d. hex_after (v * 16 + d) n s)
 
 -- the value of a run of n hexadecimal digits at the start of s
@@ -49,7 +50,7 @@ hex_run n s = hex_after 0 n s
 
 -- the value of an octal digit: `0` to `7`
 unfoldable pub octal_digit : ℕ → Option ℕ
-octal_digit b = cond (within (0x30 to 0x37) b) (some (b - 0x30)) none
+octal_digit b = cond (within (0x30 to 0x37) b) (Some (b - 0x30)) None
 
 -- A number in octal digits, and how many digits it has.
 pub record Octal : Type 0 where
@@ -66,8 +67,8 @@ unfolding octal_digit
 octal_after v zero s = record { value = v; count = 0 }
 octal_after v (suc n) [] = record { value = v; count = 0 }
 octal_after v (suc n) (b ∷ s) = elim (octal_digit b) [
-  | some d ↦ one_more (octal_after (v * 8 + d) n s)
-  | none ↦ record { value = v; count = 0 }
+  | Some d ↦ one_more (octal_after (v * 8 + d) n s)
+  | None ↦ record { value = v; count = 0 }
 ]
 
 -- the octal digits at the start of s, as many as there are, n at most

@@ -1,5 +1,6 @@
 -- The definitions, in the order in which to read them.
 pub mod Lists
+pub mod Options
 pub mod Check
 pub mod Utf8
 pub mod Digits

@@ -3,7 +3,9 @@
 -- Assumes nothing.
 use Rattle.std.specs.Prelude.{Bool, ◌&&◌, ◌||◌, ℕ, zero, suc, ◌-◌, eqb, leb, ltb, length, take, drop, get_or}
 use Rattle.std.proofs.Math.Bool.{true, false, cond}
-use Rattle.std.proofs.Math.Option.{Option, none, some, bind, or_else}
+use Rattle.std.specs.Prelude.{Option, None, Some}
+use Rattle.std.specs.Option.{option_or}
+use Rattle.spec.specs.Options.{bind}
 use mathlib.Core.List.{List, [], ◌∷◌, ◌++◌}
 use Rattle.spec.specs.Utf8.{◌to◌, within, utf8_of}
 use Rattle.spec.specs.Digits.{hex_after, hex_run, octal_after, octal_run}
@@ -48,30 +50,30 @@ letters =
 
 -- what a table gives for a letter
 unfoldable pub look_up : List (ℕ × ℕ) → ℕ → Option (List ℕ)
-look_up [] c = none
-look_up (p ∷ ps) c = cond (eqb c p.0) (some (p.1 ∷ [])) (look_up ps c)
+look_up [] c = None
+look_up (p ∷ ps) c = cond (eqb c p.0) (Some (p.1 ∷ [])) (look_up ps c)
 
 -- so many bytes behind the backslash stand for these bytes
 abbrev pub escaped : ℕ → Option (List ℕ) → Option Piece
-escaped n none = none
-escaped n (some bs) = some (record { bytes = bs; more = n })
+escaped n None = None
+escaped n (Some bs) = Some (record { bytes = bs; more = n })
 
 -- "`x` and two hexadecimal digits, one byte in `b`, else that code point in UTF-8"; s stands behind the letter
 unfoldable pub byte_escape : Escapes
 unfolding bind hex_after utf8_of
-byte_escape in_b s = escaped 3 (bind (hex_run 2 s) (λ v. some (cond in_b (v ∷ []) (utf8_of v))))
+byte_escape in_b s = escaped 3 (bind (hex_run 2 s) (λ v. Some (cond in_b (v ∷ []) (utf8_of v))))
 
 -- A code point in n hexadecimal digits. "`u` and four, never in `b`, never a surrogate (D800 to DFFF)"; "`\U` with eight", and "a `\U`
 -- that is in `b`, a surrogate or above 10FFFF hex, it is 12" (W-205): four digits don't come as far.
 unfoldable pub point_escape : ℕ → Escapes
 unfolding bind hex_after utf8_of
 point_escape n in_b s =
-    escaped (suc n) (bind (hex_run n s) (λ v. cond (in_b || (within (0xD800 to 0xDFFF) v || ltb 0x10FFFF v)) none (some (utf8_of v))))
+    escaped (suc n) (bind (hex_run n s) (λ v. cond (in_b || (within (0xD800 to 0xDFFF) v || ltb 0x10FFFF v)) None (Some (utf8_of v))))
 
 -- Edition 1, the base's escapes: "The byte after a backslash decides", "Anything else is bad".
 unfoldable pub escape : Escapes
 unfolding letters look_up byte_escape point_escape
-escape in_b [] = none
+escape in_b [] = None
 escape in_b (c ∷ s) =
     cond (eqb c 0x78) (byte_escape in_b s)
     (cond (eqb c 0x75) (point_escape 4 in_b s)
@@ -93,16 +95,16 @@ unfoldable pub octal_escape : Escapes
 unfolding octal_after utf8_of
 octal_escape in_b s =
     let o = octal_run 3 s in
-    escaped o.count (cond (in_b && ltb 0xFF o.value) none (some (cond in_b (o.value ∷ []) (utf8_of o.value))))
+    escaped o.count (cond (in_b && ltb 0xFF o.value) None (Some (cond in_b (o.value ∷ []) (utf8_of o.value))))
 
 -- Edition 2: octal, `\U` and its letters, and else what edition 1 has.
 unfoldable pub escape2 : Escapes
-unfolding more_letters look_up point_escape octal_escape escape or_else
-escape2 in_b [] = none
+unfolding more_letters look_up point_escape octal_escape escape
+escape2 in_b [] = None
 escape2 in_b (c ∷ s) =
     cond (within (0x30 to 0x37) c) (octal_escape in_b (c ∷ s))
     (cond (eqb c 0x55) (point_escape 8 in_b s)
-    (or_else (escaped 1 (look_up more_letters c)) (escape in_b (c ∷ s))))
+    (option_or (escaped 1 (look_up more_letters c)) (escape in_b (c ∷ s))))
 
 -- The escapes of an edition. A load refuses "any edition but 1 and 2" before it reads a literal.
 unfoldable pub escapes_of : ℕ → Escapes
@@ -111,7 +113,7 @@ escapes_of edition = cond (eqb edition 2) escape2 escape
 
 -- "Inside, that quote bare is bad; other bytes stand for themselves, but in `b` literals only ASCII."
 abbrev pub plain : Bool → ℕ → ℕ → Option Piece
-plain in_b quote b = cond (eqb b quote || (in_b && leb 0x80 b)) none (some (record { bytes = b ∷ []; more = 0 }))
+plain in_b quote b = cond (eqb b quote || (in_b && leb 0x80 b)) None (Some (record { bytes = b ∷ []; more = 0 }))
 
 -- ── The whole literal ────────────────────────────────────────────────
 
@@ -129,8 +131,8 @@ put bs r = record { bytes = bs ++ r.bytes; good = r.good }
 
 -- a piece, and then what stands behind it: rest leaves out so many bytes
 abbrev pub piece : Option Piece → (ℕ → Read) → Read
-piece none rest = bad
-piece (some p) rest = put p.bytes (rest p.more)
+piece None rest = bad
+piece (Some p) rest = put p.bytes (rest p.more)
 
 -- "`'` or `"`, closed by the same byte at the end; at least two bytes of quotes"
 abbrev pub is_quote : ℕ → Bool
@@ -162,7 +164,7 @@ module _ (escapes : Escapes) where
   read_with (b ∷ s) = cond (eqb b letter_b) (quoted true s) (quoted false (b ∷ s))
 
 abbrev pub whole : Read → Option (List ℕ)
-whole r = cond r.good (some r.bytes) none
+whole r = cond r.good (Some r.bytes) None
 
 -- What an edition reads of a literal.
 unfoldable pub read : ℕ → List ℕ → Read

@@ -4,7 +4,7 @@
 -- stands in the table's order. Assumes nothing.
 use Rattle.std.specs.Prelude.{Bool, true, false, not, ◌||◌, cond, List, [], ◌∷◌, ◌++◌, ℕ, zero, suc, ◌-◌, ◌*◌, ◌/◌, ◌^◌, min, eqb, leb}
 use Rattle.std.specs.Prelude.{ltb, length}
-use Rattle.std.proofs.Math.Option.{Option, none, some}
+use Rattle.std.specs.Prelude.{Option, None, Some}
 use Rattle.spec.specs.Check.{Check, pass, refuse, and_then, given, need}
 use Rattle.spec.specs.Utf8.{first_bad}
 use Rattle.spec.specs.Digits.{digits}
@@ -115,19 +115,19 @@ pub data Outcome : Type 0 where
 
 -- the lowest byte from b on, of n, without a one-byte token
 unfoldable pub missing : List Token → ℕ → ℕ → Option ℕ
-missing ts zero b = none
-missing ts (suc n) b = let rest = missing ts n (suc b) in cond (seen ts (b ∷ [])) rest (some b)
+missing ts zero b = None
+missing ts (suc n) b = let rest = missing ts n (suc b) in cond (seen ts (b ∷ [])) rest (Some b)
 
 abbrev pub demanded : Bool → Option ℕ → Option ℕ
-demanded true b = none
+demanded true b = None
 demanded false b = b
 
 -- after the lines: 19 (there is a token for each line, so no token means no lines), 20 in full mode, 21
 unfoldable pub finish : Bool → Room → List Token → Outcome
 finish partial room [] = refused 19 nowhere
 finish partial room (t ∷ ts) = elim (demanded partial (missing (t ∷ ts) 256 0)) [
-  | some b ↦ refused 20 (byte b)
-  | none ↦ cond (leb (table_words (t ∷ ts)) room.table) (accepted (t ∷ ts)) (refused 21 nowhere)
+  | Some b ↦ refused 20 (byte b)
+  | None ↦ cond (leb (table_words (t ∷ ts)) room.table) (accepted (t ∷ ts)) (refused 21 nowhere)
 ]
 
 -- "lines are taken one by one, counted from 1": the records rs from record n on, after the tokens ts
@@ -156,8 +156,8 @@ halt_if false n rest = rest
 
 -- 2 where there is a bad byte. Its offset "is the offset of the first, found as in decoding to text" (W-206): `first_bad`, as for 29.
 abbrev pub in_utf8 : Option ℕ → Start → Start
-in_utf8 (some k) rest = halts 2 (offset k)
-in_utf8 none rest = rest
+in_utf8 (Some k) rest = halts 2 (offset k)
+in_utf8 None rest = rest
 
 -- Of a text: "any edition but 1 and 2 with 34, before number 1, changing nothing"; then 1; then 2. "After 1 and 2 nothing has changed."
 unfoldable pub start_of : Form → Bool → Memory → List ℕ → Start

@@ -1,7 +1,7 @@
 -- What is proved of the definitions, as statements: each theorem is a named type, and a proof of it has exactly this type.
 -- The proofs stand in the crates `running`, `laws`, `loading` and `demands`. Assumes nothing.
 use Rattle.std.specs.Prelude.{◌≡◌, ◌⊎◌, ◌↔◌, Bool, true, false, List, ◌∷◌, ◌++◌, ℕ, ◌+◌, ◌^◌, ◌≤◌, ◌<◌, length, take, drop, get_or}
-use Rattle.std.proofs.Math.Option.{Option, none, some}
+use Rattle.std.specs.Prelude.{Option, None, Some}
 use Rattle.spec.specs.Lists.{all, Bytes}
 use Rattle.spec.specs.Utf8.{step_of, is_char, well_formed}
 use Rattle.spec.specs.Token.{Token, longest, undecided, bytes_of, joined, present, Full}
@@ -24,8 +24,8 @@ use Rattle.spec.specs.Plain.{BytePieces, record_of}
 
 -- the longest token, as a match
 abbrev pub match_of : Option Token → Match
-match_of none = nothing
-match_of (some t) = found t.id (length t.bytes)
+match_of None = nothing
+match_of (Some t) = found t.id (length t.bytes)
 
 -- On loaded memory the walk finds the longest token, for every byte string.
 abbrev pub Matching : Type 0
@@ -183,7 +183,7 @@ module _ (ts : List Token) (cs : List Call) (rs : List Reply) (q : Plain) where
   -- while the stream is open failure is not certain.
   abbrev pub StopsWhenCertain : Type 0
   StopsWhenCertain = (c : Call) (r : Reply) (p : Plain) → Valid ts → Follows ts start cs rs q → q.phase ≡ opened
-      → call_refusal (record_of ts q) c ≡ none → Steps ts q c r p
+      → call_refusal (record_of ts q) c ≡ None → Steps ts q c r p
       → ((r.answer.number ≡ 22) ↔ Certain ts c p.taken) × (((Y : List ℕ) → Bytes Y → Fails (scan ts (q.taken ++ Y)).end) → ⊥)
 
   -- With a full vocabulary it never stops.

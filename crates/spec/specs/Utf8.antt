@@ -3,7 +3,7 @@
 -- One step says what stands at the start of a string; a string is cut into parts by it, and everything else folds over the parts.
 -- Assumes nothing.
 use Rattle.std.specs.Prelude.{Bool, true, false, ◌&&◌, cond, List, [], ◌∷◌, ℕ, zero, suc, pred, ◌+◌, ◌*◌, ◌/◌, ◌%◌, leb, take}
-use Rattle.std.proofs.Math.Option.{Option, none, some}
+use Rattle.std.specs.Prelude.{Option, None, Some}
 use Rattle.spec.specs.Lists.{any, all, each}
 
 -- ── Ranges of numbers ────────────────────────────────────────────────
@@ -50,8 +50,8 @@ grammar =
     []
 
 unfoldable pub rule_for : List Rule → ℕ → Option (List Range)
-rule_for [] b = none
-rule_for (r ∷ rs) b = cond (within r.first b) (some r.others) (rule_for rs b)
+rule_for [] b = None
+rule_for (r ∷ rs) b = cond (within r.first b) (Some r.others) (rule_for rs b)
 
 -- what must follow a first byte: none if no character begins with it
 unfoldable pub after : ℕ → Option (List Range)
@@ -77,8 +77,8 @@ follow n (r ∷ rs) [] = cut n
 follow n (r ∷ rs) (b ∷ s) = cond (within r b) (follow (suc n) rs s) (bad n)
 
 abbrev pub followed : Option (List Range) → List ℕ → Step
-followed none s = bad 1
-followed (some rs) s = follow 1 rs s
+followed None s = bad 1
+followed (Some rs) s = follow 1 rs s
 
 -- The step of a string; the empty string is cut off after 0 bytes.
 unfoldable pub step_of : List ℕ → Step
@@ -130,8 +130,8 @@ well_formed s = all is_whole (parts s)
 
 -- the offset of the first part that is no character, the first of all standing at i
 unfoldable pub bad_part : ℕ → List Part → Option ℕ
-bad_part i [] = none
-bad_part i (p ∷ ps) = cond (is_whole p) (bad_part (i + size p.step) ps) (some i)
+bad_part i [] = None
+bad_part i (p ∷ ps) = cond (is_whole p) (bad_part (i + size p.step) ps) (Some i)
 
 -- the first bad offset of a string that stands at i
 unfoldable pub first_bad_from : ℕ → List ℕ → Option ℕ

@@ -1,7 +1,7 @@
 -- What a call gives, in each of its ways: refused, added, ended. Assumes nothing.
 use mathlib.Core.Path.{◌≡◌, refl, sym, ap, ◌∙◌, subst}
 use mathlib.Core.Bool.{Bool, true, false}
-use mathlib.Core.Option.{none, some}
+use Rattle.std.specs.Prelude.{None, Some}
 use mathlib.Core.List.{List, [], ◌∷◌, ◌++◌}
 use Prim.Native.Nat.{ℕ, zero, suc, pred, ◌+◌, ◌-◌, ◌≤◌}
 use native.Mathlib.Omega.{arith}
@@ -26,7 +26,7 @@ module _ (m : Memory) (r : StreamRecord) (c : Call) (d : Called) (lent : List �
   gives-short e a s = subst (λ (x : spec.Called). Answered x d lent lent) (sym (call-short m r c e))
       (record { answer = a; stream = s; cells = refl })
 
-  pub gives-refused : too_short m ≡ false → (a : Answer) → some a ≡ call_refusal r c → answer_of d.answer ≡ a → record_of d.stream ≡ r
+  pub gives-refused : too_short m ≡ false → (a : Answer) → Some a ≡ call_refusal r c → answer_of d.answer ≡ a → record_of d.stream ≡ r
       → Answered (call_on m r c) d lent lent
   gives-refused l a e b s = subst (λ (x : spec.Called). Answered x d lent lent) (sym (call-refused m r c l a e))
       (record { answer = b; stream = s; cells = refl })
@@ -60,7 +60,7 @@ added-ids total u = go u.stop
     go (waiting p t) = refl
     go (stuck p b) = refl
 
-module _ (m : Memory) (r : StreamRecord) (piece lent : List ℕ) (long : too_short m ≡ false) (goes : none ≡ call_refusal r (add piece lent))
+module _ (m : Memory) (r : StreamRecord) (piece lent : List ℕ) (long : too_short m ≡ false) (goes : None ≡ call_refusal r (add piece lent))
     (many : length (take r.held_len r.held) ≡ r.held_len) where
   pub gives-added : (out : List ℕ) (d : Called)
       → Hands (r.total + length piece) [] (run_on m (r.total - length (take r.held_len r.held)) 0 (take r.held_len r.held

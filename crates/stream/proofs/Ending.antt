@@ -1,7 +1,7 @@
 -- What an end comes to, from the whole encoding of the held bytes: with a cell for every byte it is their scan. Assumes nothing.
 use mathlib.Core.Path.{◌≡◌, refl, sym, ap, ap₂, ◌∙◌, subst}
 use mathlib.Core.Bool.{false}
-use mathlib.Core.Option.{none}
+use Rattle.std.specs.Prelude.{None}
 use mathlib.Core.List.{List, [], ◌∷◌}
 use Prim.Native.Nat.{ℕ, zero, suc, pred, ◌+◌, ◌-◌, ◌≤◌, ◌<◌}
 use native.Mathlib.Omega.{arith}
@@ -127,7 +127,7 @@ module _ (m : Memory) (s : List ℕ) (n : ℕ) (long : too_short m ≡ false) (r
 
 -- ── The call ─────────────────────────────────────────────────────────
 
-module _ (m : Memory) (r : StreamRecord) (lent out : List ℕ) (d : Called) (long : too_short m ≡ false) (goes : none
+module _ (m : Memory) (r : StreamRecord) (lent out : List ℕ) (d : Called) (long : too_short m ≡ false) (goes : None
     ≡ call_refusal r (end lent))
     (room : length (take r.held_len r.held) ≤ length lent) (written : out
     ≡ over (encode_on m (length lent) (take r.held_len r.held)).cells lent) where

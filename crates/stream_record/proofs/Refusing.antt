@@ -1,7 +1,7 @@
 -- The refusals of a stream call, case by case, and what a call comes to that is refused or goes through. Assumes nothing.
 use mathlib.Core.Path.{◌≡◌, refl, sym, ap, ◌∙◌}
 use mathlib.Core.Bool.{Bool, true, false, ◌||◌, true≢false}
-use mathlib.Core.Option.{none, some}
+use Rattle.std.specs.Prelude.{None, Some}
 use mathlib.Core.List.{List, []}
 use Prim.Native.Nat.{ℕ, ◌+◌, ◌≤◌, ◌<◌}
 use native.Mathlib.Omega.{arith}
@@ -41,40 +41,40 @@ pub record Passes (r : StreamRecord) (piece out : ℕ) : Type 0 where
   pub room : r.held_len + piece ≤ out
 
 module _ (r : StreamRecord) (piece out : List ℕ) where
-  ended : has_ended r ≡ true → some (bare 26) ≡ call_refusal r (add piece out)
+  ended : has_ended r ≡ true → Some (bare 26) ≡ call_refusal r (add piece out)
   unfolding call_refusal
   ended e = rw (e, call_refusal)
 
-  pub ended-by-phase : 2 ≤ r.phase → some (bare 26) ≡ call_refusal r (add piece out)
+  pub ended-by-phase : 2 ≤ r.phase → Some (bare 26) ≡ call_refusal r (add piece out)
   ended-by-phase h = ended (ap (λ (x : Bool). x || (ltb 254 r.held_len || ltb r.total r.held_len)) (le-leb 2 r.phase h))
 
-  pub ended-by-held : 254 < r.held_len → some (bare 26) ≡ call_refusal r (add piece out)
+  pub ended-by-held : 254 < r.held_len → Some (bare 26) ≡ call_refusal r (add piece out)
   ended-by-held h = ended (or_right (leb 2 r.phase) (ap (λ (x : Bool). x || ltb r.total r.held_len) (lt-ltb 254 r.held_len h)))
 
-  pub ended-by-total : r.total < r.held_len → some (bare 26) ≡ call_refusal r (add piece out)
+  pub ended-by-total : r.total < r.held_len → Some (bare 26) ≡ call_refusal r (add piece out)
   ended-by-total h = ended (or_right (leb 2 r.phase) (or_right (ltb 254 r.held_len) (lt-ltb r.total r.held_len h)))
 
   module _ (a : r.phase < 2) (b : r.held_len ≤ 254) (c : r.held_len ≤ r.total) where
     going : has_ended r ≡ false
     going = or-both (lt-leb 2 r.phase a) (or-both (le-ltb 254 r.held_len b) (le-ltb r.total r.held_len c))
 
-    pub is-again : r.phase ≡ 1 → some (again r) ≡ call_refusal r (add piece out)
+    pub is-again : r.phase ≡ 1 → Some (again r) ≡ call_refusal r (add piece out)
     unfolding call_refusal
     is-again h = rw (going, call_refusal) (rw (eq-eqb r.phase 1 h))
 
     module _ (d : r.phase ≡ 1 → ⊥) where
-      pub is-too-many : 4294967295 < r.total + length piece → some (bare 25) ≡ call_refusal r (add piece out)
+      pub is-too-many : 4294967295 < r.total + length piece → Some (bare 25) ≡ call_refusal r (add piece out)
       unfolding call_refusal
       is-too-many h = rw (going, call_refusal) (rw (ne_eqb r.phase 1 d) (rw (lt-ltb 4294967295 (r.total + length piece) h)))
 
       module _ (e : r.total + length piece ≤ 4294967295) where
-        pub is-output-short : length out < r.held_len + length piece → some (bare 24) ≡ call_refusal r (add piece out)
+        pub is-output-short : length out < r.held_len + length piece → Some (bare 24) ≡ call_refusal r (add piece out)
         unfolding call_refusal
         is-output-short h = rw (going, call_refusal)
             (rw (ne_eqb r.phase 1 d) (rw (le-ltb 4294967295 (r.total + length piece) e)
             (rw (lt-ltb (length out) (r.held_len + length piece) h))))
 
-        pub is_none : r.held_len + length piece ≤ length out → none ≡ call_refusal r (add piece out)
+        pub is_none : r.held_len + length piece ≤ length out → None ≡ call_refusal r (add piece out)
         unfolding call_refusal
         is_none h = rw (going, call_refusal)
             (rw (ne_eqb r.phase 1 d) (rw (le-ltb 4294967295 (r.total + length piece) e)
@@ -82,11 +82,11 @@ module _ (r : StreamRecord) (piece out : List ℕ) where
 
 -- ── A call that goes through ─────────────────────────────────────────
 
-absurd_none : {a : Answer} {A : Type 0} → some a ≡ none → A
+absurd_none : {a : Answer} {A : Type 0} → Some a ≡ None → A
 absurd_none e = let z : ◌≡◌ {A = ℕ} 0 1 = cc in absurd (omega arith)
 
 module _ (r : StreamRecord) (piece out : List ℕ) where
-  pub passes : none ≡ call_refusal r (add piece out) → Passes r (length piece) (length out)
+  pub passes : None ≡ call_refusal r (add piece out) → Passes r (length piece) (length out)
   unfolding call_refusal
   passes n = go (has_ended r) refl (eqb r.phase 1) refl (ltb 4294967295 (r.total + length piece)) refl
       (ltb (length out) (r.held_len + length piece)) refl
@@ -129,11 +129,11 @@ module _ (m : Memory) (r : StreamRecord) (c : Call) where
   call-short e = rw (e, call_on)
 
   module _ (long : too_short m ≡ false) where
-    pub call-refused : (a : Answer) → some a ≡ call_refusal r c → call_on m r c ≡ unchanged r a
+    pub call-refused : (a : Answer) → Some a ≡ call_refusal r c → call_on m r c ≡ unchanged r a
     unfolding call_on
     call-refused a e = rw (long, call_on) (rw (sym e))
 
-    pub call-through : none ≡ call_refusal r c → call_on m r c ≡ goes_through m r c
+    pub call-through : None ≡ call_refusal r c → call_on m r c ≡ goes_through m r c
     unfolding call_on
     call-through e = rw (long, call_on) (rw (sym e))
 

@@ -1,7 +1,7 @@
 -- The values of this crate's types as those of the definitions: the record, and what a call answers, each of whose cases has document 01's
 -- number and values. Assumes nothing.
 use Rattle.std.specs.Prelude.{◌≡◌, List, ℕ}
-use Rattle.std.proofs.Math.Option.{Option, none, some}
+use Rattle.std.specs.Prelude.{Option, None, Some}
 use Rattle.spec.specs.Lists.{over}
 use Rattle.spec.specs.Answer as spec
 use Rattle.spec.specs.Stream as spec-stream
@@ -33,8 +33,8 @@ answer_of OutputShort = spec.bare 24
 answer_of (Stopped count offset byte) = record { number = 22; count = count; place = offset; value = byte }
 
 abbrev pub refusal_of : Refusal → Option spec.Answer
-refusal_of None = none
-refusal_of (By a) = some (answer_of a)
+refusal_of None = None
+refusal_of (By a) = Some (answer_of a)
 
 -- A call gave r and left after where before was lent: its answer, its record, and its ids "from the output's start, with its count; other
 -- cells are untouched".

@@ -2,7 +2,7 @@
 -- Assumes nothing.
 use mathlib.Core.Path.{◌≡◌, refl, ◌∙◌, sym, subst}
 use mathlib.Core.Bool.{Bool, true, false, cond}
-use mathlib.Core.Option.{none, some}
+use Rattle.std.specs.Prelude.{None, Some}
 use mathlib.Core.List.{List, [], ◌∷◌}
 use Prim.Native.Nat.{ℕ, zero, suc, ◌≤◌, ◌<◌}
 use native.Mathlib.Omega.{arith}
@@ -21,13 +21,13 @@ others_at [] i = []
 others_at (r ∷ rs) zero = r.others
 others_at (r ∷ rs) (suc i) = others_at rs i
 
-rule_at : (rs : List Rule) (i n : ℕ) → RuleAt rs i n → rule_for rs n ≡ some (others_at rs i)
+rule_at : (rs : List Rule) (i n : ℕ) → RuleAt rs i n → rule_for rs n ≡ Some (others_at rs i)
 unfolding rule_for
 rule_at [] i n h = absurd h
 rule_at (r ∷ rs) zero n h = rw (inside r.first n h)
 rule_at (r ∷ rs) (suc i) n h = rw (outside r.first n h.0) (rule_at rs i n h.1)
 
-pub after-at : (i n : ℕ) → unfold grammar in RuleAt grammar i n → after n ≡ unfold grammar in some (others_at grammar i)
+pub after-at : (i n : ℕ) → unfold grammar in RuleAt grammar i n → after n ≡ unfold grammar in Some (others_at grammar i)
 unfolding after
 after-at i n h = rule_at grammar i n h
 
@@ -36,12 +36,12 @@ abbrev pub NoRule : List Rule → ℕ → Type 0
 NoRule [] n = Unit {0}
 NoRule (r ∷ rs) n = Out r.first n × NoRule rs n
 
-no_rule : (rs : List Rule) (n : ℕ) → NoRule rs n → rule_for rs n ≡ none
+no_rule : (rs : List Rule) (n : ℕ) → NoRule rs n → rule_for rs n ≡ None
 unfolding rule_for
 no_rule [] n h = refl
 no_rule (r ∷ rs) n h = rw (outside r.first n h.0) (no_rule rs n h.1)
 
-pub after_none : (n : ℕ) → unfold grammar in NoRule grammar n → after n ≡ none
+pub after_none : (n : ℕ) → unfold grammar in NoRule grammar n → after n ≡ None
 unfolding after
 after_none n h = no_rule grammar n h
 
@@ -54,16 +54,16 @@ abbrev more : List Rule → List Rule
 more [] = []
 more (r ∷ rs) = rs
 
-longer-rule : (rs : List Rule) → Longer rs → (n : ℕ) (os : List Range) → rule_for rs n ≡ some os → 0 < length os
+longer-rule : (rs : List Rule) → Longer rs → (n : ℕ) (os : List Range) → rule_for rs n ≡ Some os → 0 < length os
 unfolding rule_for
 longer-rule [] l n os e = let z : ◌≡◌ {A = ℕ} 0 1 = cc in absurd (omega arith)
 longer-rule (r ∷ rs) l n os e = go (within r.first n) e (longer-rule rs l.1 n os)
   where
-    go : (c : Bool) → cond c (some r.others) (rule_for rs n) ≡ some os → (rule_for rs n ≡ some os → 0 < length os) → 0 < length os
+    go : (c : Bool) → cond c (Some r.others) (rule_for rs n) ≡ Some os → (rule_for rs n ≡ Some os → 0 < length os) → 0 < length os
     go true e k = let z : r.others ≡ os = cc in subst (λ (l : List Range). 0 < length l) z l.0
     go false e k = k e
 
-pub after-longer : (n : ℕ) (os : List Range) → 0x80 ≤ n → some os ≡ after n → 0 < length os
+pub after-longer : (n : ℕ) (os : List Range) → 0x80 ≤ n → Some os ≡ after n → 0 < length os
 unfolding after
 after-longer n os h e =
     let o : Out (0x00 to 0x7F) n = omega arith in

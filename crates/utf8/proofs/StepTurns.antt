@@ -1,7 +1,7 @@
 -- The step of a string, as the loop of `step_at` finds it: where it starts, and one lemma for each way a turn can go. Assumes nothing.
 use mathlib.Core.Path.{◌≡◌, refl, ap, ◌∙◌, sym}
 use mathlib.Core.Bool.{true, false}
-use mathlib.Core.Option.{Option, none, some}
+use Rattle.std.specs.Prelude.{Option, None, Some}
 use mathlib.Core.List.{List, []}
 use Prim.Native.Nat.{ℕ, zero, suc, ◌+◌, ◌-◌, ◌≤◌, ◌<◌}
 use native.Mathlib.Numerals.{add-one}
@@ -70,7 +70,7 @@ module _ (n left low high : ℕ) (s : List ℕ) (i : ℕ) where
           let z : suc l - 1 ≡ l = omega arith in
           rw (drop-cons s i 0 e, o, z, ranges-tail l, add-one n, add-one i)
 
-pub first-end : (s : List ℕ) (i : ℕ) → length s ≤ i → none ≡ first_bad_from i (drop i s)
+pub first-end : (s : List ℕ) (i : ℕ) → length s ≤ i → None ≡ first_bad_from i (drop i s)
 first-end s i h = rw (drop_of_length-le s h, first-bad_nil i)
 
 -- at a place before the end
@@ -85,10 +85,10 @@ module _ (s : List ℕ) (i : ℕ) (h : i < length s) where
   pub ascii-char : get_or s i 0 < 0x80 → step_of (drop i s) ≡ char 1
   unfolding grammar follow
   ascii-char a =
-      sym (step_first s i (some []) h (sym (after-at 0 (get_or s i 0) (omega arith))))
+      sym (step_first s i (Some []) h (sym (after-at 0 (get_or s i 0) (omega arith))))
 
   pub first_char : (n : ℕ) → step_of (drop i s) ≡ char n → first_bad_from i (drop i s) ≡ first_bad_from (i + n) (drop (i + n) s)
   first_char n e = first-bad-char (drop i s) some_left i n e ∙ ap (first_bad_from (i + n)) (drop-drop n i s)
 
-  pub first-other : (t : Step) → step_of (drop i s) ≡ t → is_char t ≡ false → first_bad_from i (drop i s) ≡ some i
+  pub first-other : (t : Step) → step_of (drop i s) ≡ t → is_char t ≡ false → first_bad_from i (drop i s) ≡ Some i
   first-other t e f = first-bad-other (drop i s) some_left i t e f

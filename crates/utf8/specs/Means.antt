@@ -1,5 +1,5 @@
 -- What the answers of the code mean, in the terms of `spec`. Assumes nothing.
-use Rattle.std.proofs.Math.Option.{Option, none, some}
+use Rattle.std.specs.Prelude.{Option, None, Some}
 use Rattle.std.specs.Prelude.{List, [], ◌∷◌, ℕ, zero, suc, replicate}
 use Rattle.spec.specs.Utf8.{Range, ◌to◌, tail}
 use Rattle.spec.specs.Utf8 as U
@@ -16,8 +16,8 @@ ranges zero low high = []
 ranges (suc n) low high = (low to high) ∷ replicate n tail
 
 abbrev pub lead_means : Lead → Option (List Range)
-lead_means Nothing = none
-lead_means (Follow n low high) = some (ranges n low high)
+lead_means Nothing = None
+lead_means (Follow n low high) = Some (ranges n low high)
 
 abbrev pub step_means : Step → U.Step
 step_means (Char n) = U.char n
@@ -26,5 +26,5 @@ step_means (Cut n) = U.cut n
 
 -- the first bad offset, none if the text is UTF-8
 abbrev pub text_means : Text → Option ℕ
-text_means WellFormed = none
-text_means (BadAt i) = some i
+text_means WellFormed = None
+text_means (BadAt i) = Some i

@@ -1,5 +1,5 @@
 -- `source::text_refusal` meets its contract. Assumes nothing.
-use mathlib.Core.Option.{none, some}
+use Rattle.std.specs.Prelude.{None, Some}
 use Rattle.source.proofs.Early.{starts-number, starts-text}
 use Rattle.source.proofs.text_refusal.Goals as goal
 
@@ -15,7 +15,7 @@ returns-in-BadAt c =
     let early = d.early_number-number in
     let short = d.too_short in
     λ partial blob table.
-    starts-text _ _ _ _ _ (short.ensures blob table) early.ensures partial d.if-number-ne0.false (some _)
+    starts-text _ _ _ _ _ (short.ensures blob table) early.ensures partial d.if-number-ne0.false (Some _)
     c.in-BadAt.ensures
 
 pub returns-in-WellFormed : goal.returns-in-WellFormed
@@ -24,5 +24,5 @@ returns-in-WellFormed c =
     let early = d.early_number-number in
     let short = d.too_short in
     λ partial blob table.
-    starts-text _ _ _ _ _ (short.ensures blob table) early.ensures partial d.if-number-ne0.false none
+    starts-text _ _ _ _ _ (short.ensures blob table) early.ensures partial d.if-number-ne0.false None
     c.in-WellFormed.ensures

@@ -1,0 +1,2 @@
+-- Lemmas of the emptied memory.
+pub mod Emptying

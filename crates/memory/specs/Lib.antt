@@ -1,0 +1,2 @@
+-- Lent memory as the definitions see it.
+pub mod Lent

@@ -1,0 +1,3 @@
+-- The numbers and places of the refusals.
+pub mod Numbers
+pub mod Places
