@@ -16,6 +16,7 @@ use Rattle.spec.specs.Line.{fields}
 use Rattle.spec.specs.Literal.{Piece, Escapes, letters, look_up, escaped, byte_escape, point_escape, escape, more_letters, octal_escape}
 use Rattle.spec.specs.Literal.{escape2, escapes_of, plain, bad, piece, closed, piece_at, inside, quoted, read_with, read, literal}
 use Rattle.spec.specs.Load.{Form, vocabulary, records_in}
+use Rattle.laws.specs.OptionLaws.{none-ne-some}
 use Rattle.laws.specs.Tests.{and_l, and_r}
 use Rattle.laws.specs.LiteralLaws.{hex_run_lt}
 use Rattle.loading.specs.Checks.{need-pass, given-pass}
@@ -105,22 +106,19 @@ utf8_bytes c =
     bytes_cond (leb c 0x10FFFF) ((0xF0 + c / 262144) ∷ (0x80 + c / 4096 % 64) ∷ (0x80 + c / 64 % 64) ∷ (0x80 + c % 64) ∷ []) []
     (λ e. let h = leb-true c 0x10FFFF e in (omega arith, (omega arith, (omega arith, (omega arith, tt))))) (λ e. tt)))))
 
-None≢Some : {A : Type 0} (a : A) → None ≡ Some a → ⊥
-None≢Some a e = let z : ◌≡◌ {A = ℕ} 0 1 = cc in omega arith
-
 bind_some : {A B : Type 0} (o : Option A) (k : A → Option B) (b : B) → bind o k ≡ Some b → (a : A) × (o ≡ Some a) × (k a ≡ Some b)
 unfolding bind
-bind_some None k b e = absurd (None≢Some b e)
+bind_some None k b e = absurd (none-ne-some b e)
 bind_some (Some a) k b e = (a, refl, e)
 
 escape-of : (n : ℕ) (o : Option (List ℕ)) (p : Piece) → ((bs : List ℕ) → o ≡ Some bs → Bytes bs) → escaped n o ≡ Some p → Bytes p.bytes
-escape-of n None p h e = absurd (None≢Some p e)
+escape-of n None p h e = absurd (none-ne-some p e)
 escape-of n (Some bs) p h e = let z : record { bytes = bs; more = n } ≡ p = cc in subst (λ (q : Piece). Bytes q.bytes) z (h bs refl)
 
 -- a table whose bytes are bytes, by a test over all of it
 letter_bytes : (ps : List (ℕ × ℕ)) (c : ℕ) (bs : List ℕ) → all (λ (p : ℕ × ℕ). ltb p.1 256) ps ≡ true → look_up ps c ≡ Some bs → Bytes bs
 unfolding look_up all
-letter_bytes [] c bs h e = absurd (None≢Some bs e)
+letter_bytes [] c bs h e = absurd (none-ne-some bs e)
 letter_bytes (p ∷ ps) c bs h e = go (eqb c p.0) e (λ k. letter_bytes ps c bs (and_r (ltb p.1 256) _ h) k)
   where
     go : (t : Bool) → cond t (Some (p.1 ∷ [])) (look_up ps c) ≡ Some bs → (look_up ps c ≡ Some bs → Bytes bs) → Bytes bs
@@ -133,7 +131,7 @@ ToBytes escapes = (in_b : Bool) (s : List ℕ) (p : Piece) → escapes in_b s �
 
 -- a code point, unless it is refused
 point_or : (t : Bool) (v : ℕ) (bs : List ℕ) → cond t None (Some (utf8_of v)) ≡ Some bs → Bytes bs
-point_or true v bs e = absurd (None≢Some bs e)
+point_or true v bs e = absurd (none-ne-some bs e)
 point_or false v bs e = let z : utf8_of v ≡ bs = cc in subst Bytes z (utf8_bytes v)
 
 byte_escapes : ToBytes byte_escape
@@ -172,7 +170,7 @@ octal_escapes in_b s p e =
     told b t = cond (b && t) None (Some (cond b (v ∷ []) (utf8_of v)))
 
     of : (b t : Bool) → ltb 0xFF v ≡ t → (bs : List ℕ) → told b t ≡ Some bs → Bytes bs
-    of true true h bs e = absurd (None≢Some bs e)
+    of true true h bs e = absurd (none-ne-some bs e)
     of true false h bs e =
         let k = ltb-false 0xFF v h in
         let z : v ∷ [] ≡ bs = cc in
@@ -185,7 +183,7 @@ letter_escapes ps c p h e = escape-of 1 (look_up ps c) p (λ bs k. letter_bytes 
 
 first-edition : ToBytes escape
 unfolding escape all
-first-edition in_b [] p e = absurd (None≢Some p e)
+first-edition in_b [] p e = absurd (none-ne-some p e)
 first-edition in_b (c ∷ s) p e = go (eqb c 0x78) (eqb c 0x75) e
   where
     go : (x u : Bool) → cond x (byte_escape in_b s) (cond u (point_escape 4 in_b s) (escaped 1 (look_up letters c))) ≡ Some p
@@ -196,7 +194,7 @@ first-edition in_b (c ∷ s) p e = go (eqb c 0x78) (eqb c 0x75) e
 
 second_edition : ToBytes escape2
 unfolding escape2 all
-second_edition in_b [] p e = absurd (None≢Some p e)
+second_edition in_b [] p e = absurd (none-ne-some p e)
 second_edition in_b (c ∷ s) p e = go (within (0x30 to 0x37) c) (eqb c 0x55) (escaped 1 (look_up more_letters c)) refl e
   where
     go : (o u : Bool) (l : Option Piece) → escaped 1 (look_up more_letters c) ≡ l
@@ -218,7 +216,7 @@ plain-bytes : (in_b : Bool) (quote b : ℕ) (p : Piece) → b < 256 → plain in
 plain-bytes in_b quote b p h e = go (eqb b quote || (in_b && leb 0x80 b)) e
   where
     go : (t : Bool) → cond t None (Some (record { bytes = b ∷ []; more = 0 })) ≡ Some p → Bytes p.bytes
-    go true e = absurd (None≢Some p e)
+    go true e = absurd (none-ne-some p e)
     go false e = let z : record { bytes = b ∷ []; more = 0 } ≡ p = cc in subst (λ (q : Piece). Bytes q.bytes) z (h, tt)
 
 module _ (escapes : Escapes) (to-bytes : ToBytes escapes) where
@@ -265,4 +263,4 @@ literal-bytes edition s bs e h = go (read_with (escapes_of edition) s).good e
     go true e =
         let z : (read_with (escapes_of edition) s).bytes ≡ bs = cc in
         subst Bytes z (read-bytes (escapes_of edition) (of_edition edition) s h)
-    go false e = absurd (None≢Some bs e)
+    go false e = absurd (none-ne-some bs e)
