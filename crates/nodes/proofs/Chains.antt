@@ -1,6 +1,6 @@
 -- Chains of links, numbers of nodes, and what a search along a chain finds. For the proofs. Assumes nothing.
 use Rattle.std.proofs.Common.{◌≡◌, ℕ, zero, suc, ◌-◌, ◌<◌, ◌≤◌, true, false, cond, eqb, ◌⊎◌, List, [], ◌∷◌, ◌++◌, map, length, get_or}
-use Rattle.std.proofs.Common.{take, sym, refl, ap, ◌∙◌, subst, inl, inr, arith, eqb-true}
+use Rattle.std.proofs.Common.{sym, refl, ap, ◌∙◌, subst, inl, inr, arith, eqb-true}
 use mathlib.Core.List.Memᴰ.{head as here}
 use mathlib.Core.List.Memᴰ.{tail as there}
 use mathlib.Core.List.{Memᴰ as Mem}
@@ -240,13 +240,3 @@ module _ {ps : List (List ℕ)} {I : List ℕ → ℕ} {m : Nodes} (T : Tree ps 
 pub bytes_of : (s : List ℕ) → ((k : ℕ) → get_or s k 0 < 256) → Bytes s
 bytes_of [] h = tt
 bytes_of (b ∷ s) h = (h 0, bytes_of s (λ k. h (suc k)))
-
--- the first n numbers are bytes too
-pub known-taken : (n : ℕ) (s : List ℕ) → ((k : ℕ) → get_or s k 0 < 256) → (k : ℕ) → get_or (take n s) k 0 < 256
-known-taken zero s h k = omega arith
-known-taken (suc n) [] h k = omega arith
-known-taken (suc n) (b ∷ s) h zero = h 0
-known-taken (suc n) (b ∷ s) h (suc k) = known-taken n s (λ j. h (suc j)) k
-
-pub bytes_taken : (n : ℕ) (s : List ℕ) → ((k : ℕ) → get_or s k 0 < 256) → Bytes (take n s)
-bytes_taken n s h = bytes_of (take n s) (known-taken n s h)

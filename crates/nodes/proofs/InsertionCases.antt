@@ -1,25 +1,65 @@
 -- One equation for each way a definition of Insertion can go, and what insertion keeps on any memory. For the proofs. Assumes nothing.
-use Rattle.std.proofs.Common.{◌≡◌, ℕ, zero, suc, ◌+◌, ◌-◌, ◌*◌, ◌<◌, ◌≤◌, Bool, true, false, cond, not, eqb, leb, List, [], ◌∷◌, length}
-use Rattle.std.proofs.Common.{get_or, take, drop, set, sym, refl, ap, ◌∙◌, subst, ap₂, arith, drop_of_length-le, drop-cons, get_or-take}
+use Rattle.std.proofs.Common.{◌≡◌, ℕ, zero, suc, ◌+◌, ◌-◌, ◌*◌, ◌<◌, ◌≤◌, Bool, true, false, cond, eqb, leb, List, [], ◌∷◌, length}
+use Rattle.std.proofs.Common.{get_or, drop, set, sym, refl, ap, ◌∙◌, subst, ap₂, arith, drop_of_length-le, drop-cons}
 use Rattle.std.proofs.Common.{eq-eqb, ne_eqb, eqb-true, le-leb, leb-false, leb-true}
 use borrow.Author.Tests.{eqb-false, lt-leb}
 use Rattle.laws.specs.Tests.{yes_case, no_case}
 use Rattle.nodes.specs.Run.{Nodes, see, set_node}
-use Rattle.nodes.proofs.NodeRun.{length-set_node, set-seen, set-over, set-swap, see-other}
+use Rattle.nodes.proofs.NodeRun.{length-set_node, set-over, set-swap, see-other}
 use Rattle.nodes.specs.Insertion.{leaf, grown, with_next, last_child, with_term, find, child_of, link_last, add_child, State, state}
-use Rattle.nodes.specs.Insertion.{child_made, descend_on, Rooted, rooted, root_made, root_given, root_node, Ended, ended, finish_on}
-use Rattle.nodes.specs.Insertion.{with_end, answer_at, after, insert_on}
+use Rattle.nodes.specs.Insertion.{child_made, descend_on, Rooted, rooted, root_made, linked, StepTo, Ended, ended, finish_on}
+use Rattle.nodes.specs.Insertion.{after, insert_on}
 use Rattle.nodes.specs.declared.Node.{Node}
 use Rattle.nodes.specs.declared.Place.{Place}
-use Rattle.nodes.specs.declared.Rooting.{Rooting}
-use Rattle.nodes.specs.declared.Inserted.{Inserted}
-use Rattle.nodes.specs.declared.Inserted.TheVariants.{Duplicate, NoRoom, Made}
+use Rattle.std.specs.Prelude.{Some, None, Result, Ok, Err}
+use Rattle.refusals.specs.declared.Refusal.TheVariants.{SeenBefore, NodesFull}
+use Rattle.refusals.specs.declared.Refusal.{Refusal}
 
--- ---- a choice
+-- ---- what the code answers
 
-pub turned : (c : Bool) {r d : Bool} → r ≡ not c → r ≡ d → c ≡ not d
-turned true e q = ap not (sym e ∙ q)
-turned false e q = ap not (sym e ∙ q)
+pub linked-some : (k n : ℕ) → Some n ≡ linked k → (n ≡ k) × (k ≡ 0 → ⊥)
+linked-some k n = go (eqb k 0) refl
+  where
+    go : (d : Bool) → eqb k 0 ≡ d → Some n ≡ cond d None (Some k) → (n ≡ k) × (k ≡ 0 → ⊥)
+    go true e q = cc
+    go false e q = (cc, eqb-false k 0 e)
+
+pub linked-none : (k : ℕ) → None ≡ linked k → k ≡ 0
+linked-none k = go (eqb k 0) refl
+  where
+    go : (d : Bool) → eqb k 0 ≡ d → None ≡ cond d None (Some k) → k ≡ 0
+    go true e q = eqb-true k 0 e
+    go false e q = cc
+
+-- a step that comes to a place, and one for which there is no room
+pub step_at : {s : State} {m : Nodes} {p : Place} → s ≡ state m p.node p.made → (p.node ≡ 0 → ⊥) → StepTo s m (Ok p)
+step_at {s} {m} {p} e z = subst (λ (x : State). StepTo x m (Ok p)) (sym e)
+    (record { mem = refl; place = sym (no_case _ _ (ne_eqb p.node 0 z)) })
+
+pub step_full : {s : State} {m : Nodes} {k : ℕ} → s ≡ state m 0 k → StepTo s m (Err NodesFull)
+step_full {s} {m} {k} e = subst (λ (x : State). StepTo x m (Err NodesFull)) (sym e) (record { mem = refl; place = refl })
+
+module _ {s : State} {m : Nodes} where
+  pub step_ok : {p : Place} → StepTo s m (Ok p) → (state m p.node p.made ≡ s) × (p.node ≡ 0 → ⊥)
+  step_ok {p = p} h = go (eqb s.node 0) refl h.place
+    where
+      go : (d : Bool) → eqb s.node 0 ≡ d → Ok p ≡ cond d (Err NodesFull) (Ok (record { node = s.node; made = s.made }))
+          → (state m p.node p.made ≡ s) × (p.node ≡ 0 → ⊥)
+      go true e q = cc
+      go false e q =
+          let is : p ≡ record { node = s.node; made = s.made } = cc in
+          (ap₂ (λ (x : Nodes) (y : Place). state x y.node y.made) h.mem is, λ z. eqb-false s.node 0 e (sym (ap (λ (y : Place). y.node) is) ∙ z))
+
+  pub step_err : {e : Refusal} → StepTo s m (Err e) → (s.node ≡ 0) × (e ≡ NodesFull)
+  step_err {e = r} h = go (eqb s.node 0) refl h.place
+    where
+      there : Place
+      there = record { node = s.node; made = s.made }
+
+      go : (d : Bool) → eqb s.node 0 ≡ d → ◌≡◌ {A = Result Place Refusal} (Err r) (cond d (Err NodesFull) (Ok there))
+          → (s.node ≡ 0) × (r ≡ NodesFull)
+      go true e q = (eqb-true s.node 0 e, cc)
+      go false e q = cc
 
 -- ---- find
 
@@ -224,22 +264,41 @@ desc_sound cap n s (b ∷ l) h = go (eqb s.node 0) (desc_sound cap n (child_made
     go true r = h
     go false r = r
 
--- where a walk along the bytes is, at byte k: what is left of them gives what the whole does
-abbrev pub OnWay : ℕ → List ℕ → State → Nodes → Place → ℕ → Type 0
-OnWay cap l all m p k =
-    (p.node < p.made) × (p.made ≤ cap) × (descend_on cap (state m p.node p.made) (drop k l) ≡ all)
+-- where a walk along the bytes is, at byte k: at a node that is made, and what is left of them gives what the whole does
+pub record OnWay (cap : ℕ) (l : List ℕ) (all : State) (m : Nodes) (p : Place) (k : ℕ) : Type 0 where
+  pub some : p.node ≡ 0 → ⊥
+  pub node-lt : p.node < p.made
+  pub made-le : p.made ≤ cap
+  pub rest : descend_on cap (state m p.node p.made) (drop k l) ≡ all
 
-pub way_on : (cap : ℕ) (l : List ℕ) (all : State) (m m' : Nodes) (p p' : Place) (k k' b : ℕ) → k < length l → (p.node ≡ 0 → ⊥)
-    → b ≡ get_or l k 0 → state m' p'.node p'.made ≡ child_made cap m p.made p.node b → k' ≡ k + 1
-    → OnWay cap l all m p k → OnWay cap l all m' p' k'
-way_on cap l all m m' p p' k k' b h z eb ep ek on =
-    let s = subst (Sound cap (length m)) (sym ep) (made_sound cap m p.made p.node b on.0 on.1) in (
-      s.node-lt,
-      s.made-le,
-      ap (λ (i : ℕ). descend_on cap (state m' p'.node p'.made) (drop i l)) ek
-          ∙ sym (desc_on cap (state m p.node p.made) (state m' p'.node p'.made) l k h z
-          (ep ∙ ap (child_made cap m p.made p.node) eb)) ∙ on.2,
-    )
+module _ {cap : ℕ} {l : List ℕ} {all : State} {m : Nodes} {p : Place} {k : ℕ} (on : OnWay cap l all m p k) (h : k < length l)
+    {b : ℕ} (eb : b ≡ get_or l k 0) where
+  way-next : descend_on cap (child_made cap m p.made p.node b) (drop (k + 1) l) ≡ all
+  way-next =
+      sym (desc_on cap (state m p.node p.made) (child_made cap m p.made p.node b) l k h on.some
+      (ap (child_made cap m p.made p.node) eb)) ∙ on.rest
+
+  pub way_on : {m' : Nodes} {p' : Place} → StepTo (child_made cap m p.made p.node b) m' (Ok p') → OnWay cap l all m' p' (k + 1)
+  way_on r =
+      let o = step_ok r in
+      let s = subst (Sound cap (length m)) (sym o.0) (made_sound cap m p.made p.node b on.node-lt on.made-le) in
+      record {
+        some = o.1;
+        node-lt = s.node-lt;
+        made-le = s.made-le;
+        rest = ap (λ (x : State). descend_on cap x (drop (k + 1) l)) o.0 ∙ way-next;
+      }
+
+  -- the walk ends where there is no room
+  pub way_full : {m' : Nodes} {e : Refusal} → StepTo (child_made cap m p.made p.node b) m' (Err e) → StepTo all m' (Err e)
+  way_full {m' = m'} {e = e} r =
+      let s = child_made cap m p.made p.node b in
+      let is : s ≡ all = sym (desc_zero cap s (drop (k + 1) l) (step_err r).0) ∙ way-next in
+      subst (λ (x : State). StepTo x m' (Err e)) is r
+
+pub way_done : {cap : ℕ} {l : List ℕ} {all : State} {m : Nodes} {p : Place} {k : ℕ} → OnWay cap l all m p k → length l ≤ k
+    → StepTo all m (Ok p)
+way_done {cap} {l} {all} {m} {p} {k} on h = step_at (sym on.rest ∙ desc_done cap (state m p.node p.made) l k h) on.some
 
 -- ---- root_made
 
@@ -292,38 +351,10 @@ root_room root cap made h z = leb-false cap made (sym (yes_case _ _ (eq-eqb root
 pub root_there : (root cap made : ℕ) → cond (eqb root 0) (leb cap made) (leb made root) ≡ false → (root ≡ 0 → ⊥) → root < made
 root_there root cap made h z = leb-false made root (sym (no_case _ _ (ne_eqb root 0 z)) ∙ h)
 
--- the same by a fetch and a store of the node at the root, which is stored as it is where it stands
-pub root_is : (m m' : Nodes) (rs : List ℕ) (found : Rooting) (n n' : Node) (b : ℕ) → n ≡ see m found.place.node
-    → n' ≡ root_node n found b → m' ≡ set_node m found.place.node n'
-    → rooted rs (state m' found.place.node found.place.made) ≡ root_given rs found m b
-root_is m m' rs found n n' b en en' em =
-    ap (λ (x : Nodes). rooted rs (state x found.place.node found.place.made))
-    (em ∙ ap (set_node m found.place.node) (en' ∙ ap (λ (x : Node). root_node x found b) en) ∙ go found.new)
-  where
-    go : (d : Bool) → set_node m found.place.node (cond d (leaf b) (see m found.place.node))
-        ≡ cond d (set_node m found.place.node (leaf b)) m
-    go true = refl
-    go false = set-seen m found.place.node
-
--- the place found is within bounds, and so is the place that the way down from one leads to
-pub root_place : (cap : ℕ) (rs rs' : List ℕ) (m : Nodes) (made at : ℕ) (found : Rooting)
-    → ((m : Nodes) (b : ℕ) → root_given rs' found m b ≡ root_made cap rs m made at b) → 1 ≤ made → made ≤ cap
-    → (found.place.node < found.place.made) × (found.place.made ≤ cap)
-root_place cap rs rs' m made at found given p q =
-    let s = subst (λ (x : Rooted). Sound cap (length m) x.st) (sym (given m 0)) (root-sound cap rs m made at 0 p q) in
-    (s.node-lt, s.made-le)
-
-pub desc_place : (cap : ℕ) (m m' : Nodes) (p q : Place) (l : List ℕ)
-    → state m' q.node q.made ≡ descend_on cap (state m p.node p.made) l → (p.node < p.made) × (p.made ≤ cap) → q.node < cap
-desc_place cap m m' p q l e inside =
-    let s = subst (Sound cap (length m)) (sym e) (desc_sound cap (length m) (state m p.node p.made) l
-    (record { node-lt = inside.0; made-le = inside.1; len = refl })) in
-    let h = s.node-lt in let k = s.made-le in omega arith
-
 -- ---- finish_on
 
 module _ (s : State) (id : ℕ) where
-  pub fin-none : s.node ≡ 0 → finish_on s id ≡ ended s.mem NoRoom
+  pub fin-none : s.node ≡ 0 → finish_on s id ≡ ended s.mem (Err NodesFull)
   unfolding finish_on
   fin-none z = yes_case _ _ (eq-eqb s.node 0 z)
 
@@ -331,33 +362,15 @@ module _ (s : State) (id : ℕ) where
     there : (see s.mem s.node).term ≡ n.term
     there = ap (λ (x : Node). x.term) (sym en)
 
-    pub fin-twice : (n.term ≡ 0 → ⊥) → finish_on s id ≡ ended s.mem Duplicate
+    pub fin-twice : (n.term ≡ 0 → ⊥) → finish_on s id ≡ ended s.mem (Err SeenBefore)
     unfolding finish_on
     fin-twice z = no_case _ _ (ne_eqb s.node 0 nz) ∙ no_case _ _ (ne_eqb (see s.mem s.node).term 0 (λ e. z (sym there ∙ e)))
 
-    pub fin-made : n.term ≡ 0 → finish_on s id ≡ ended (set_node s.mem s.node (with_term n id)) (Made s.made)
+    pub fin-made : n.term ≡ 0 → finish_on s id ≡ ended (set_node s.mem s.node (with_term n id)) (Ok s.made)
     unfolding finish_on
     fin-made z =
         no_case _ _ (ne_eqb s.node 0 nz) ∙ yes_case _ _ (eq-eqb (see s.mem s.node).term 0 (there ∙ z))
-        ∙ ap (λ (x : Node). ended (set_node s.mem s.node (with_term x id)) (Made s.made)) (sym en)
-
--- the same by a fetch and a store of the node reached, which is stored as it is where the token is refused
-pub fin_is : (m m' : Nodes) (n n' : Node) (p : Place) (id : ℕ) (r : Inserted) → n ≡ see m p.node → n' ≡ with_end n p id
-    → m' ≡ set_node m p.node n' → r ≡ answer_at n p → ended m' r ≡ finish_on (state m p.node p.made) id
-unfolding finish_on
-fin_is m m' n n' p id r en en' em er =
-    ap₂ ended (em ∙ ap (set_node m p.node) (en' ∙ ap (λ (x : Node). with_end x p id) en)) (er ∙ ap (λ (x : Node). answer_at x p) en)
-    ∙ go (eqb p.node 0) (eqb here.term 0)
-  where
-    here : Node
-    here = see m p.node
-
-    go : (d e : Bool)
-        → ended (set_node m p.node (cond d here (cond e (with_term here id) here))) (cond d NoRoom (cond e (Made p.made) Duplicate))
-        ≡ cond d (ended m NoRoom) (cond e (ended (set_node m p.node (with_term here id)) (Made p.made)) (ended m Duplicate))
-    go true e = ap (λ (x : Nodes). ended x NoRoom) (set-seen m p.node)
-    go false true = refl
-    go false false = ap (λ (x : Nodes). ended x Duplicate) (set-seen m p.node)
+        ∙ ap (λ (x : Node). ended (set_node s.mem s.node (with_term x id)) (Ok s.made)) (sym en)
 
 -- ---- insert_on
 
@@ -372,18 +385,3 @@ insert_is cap rs m made bs id at w s d ea ew es ed =
     ap (λ (x : Ended). after w.roots x.mem x.answer) (ed ∙ ap (λ (x : State). finish_on x id) es)
     ∙ ap (λ (x : Rooted). after x.roots (finish_on (descend_on cap x.st (drop 2 bs)) id).mem
     (finish_on (descend_on cap x.st (drop 2 bs)) id).answer) e
-
--- the same by the steps of `insert`
-pub insert_steps : (cap : ℕ) (rs rs' : List ℕ) (m m₁ m₂ m₃ : Nodes) (made at b n id : ℕ) (bytes : List ℕ) (found : Rooting)
-    (root root' end end' : Node) (q : Place) (r : Inserted) → 2 ≤ n → at ≡ get_or bytes 0 0 * 256 + get_or bytes 1 0
-    → ((m : Nodes) (b : ℕ) → root_given rs' found m b ≡ root_made cap rs m made at b)
-    → root ≡ see m found.place.node → b ≡ get_or bytes 1 0 → root' ≡ root_node root found b
-    → m₁ ≡ set_node m found.place.node root'
-    → state m₂ q.node q.made ≡ descend_on cap (state m₁ found.place.node found.place.made) (drop 2 (take n bytes))
-    → end ≡ see m₂ q.node → end' ≡ with_end end q id → m₃ ≡ set_node m₂ q.node end' → r ≡ answer_at end q
-    → after rs' m₃ r ≡ insert_on cap rs m made (take n bytes) id
-insert_steps cap rs rs' m m₁ m₂ m₃ made at b n id bytes found root root' end end' q r two ea ef eo eb eo' e₁ eq ee ee' e₂ er =
-    insert_is cap rs m made (take n bytes) id at _ (state m₂ q.node q.made) (ended m₃ r)
-    (ea ∙ ap₂ (λ (x y : ℕ). x * 256 + y) (sym (get_or-take n bytes 0 0 (omega arith))) (sym (get_or-take n bytes 1 0 two)))
-    (root_is m m₁ rs' found root root' b eo eo' e₁ ∙ ef m b ∙ ap (root_made cap rs m made at) (eb ∙ sym (get_or-take n bytes 1 0 two)))
-    eq (fin_is m₂ m₃ end end' q id r ee ee' e₂ er)

@@ -2,8 +2,8 @@
 -- the tokens with this one. `insert_means` is what the contract of `insert` cites; `stands_none` and `stands_one` are for the builder: the
 -- start, and tokens of one byte, which make no node. Assumes nothing.
 use Rattle.std.proofs.Common.{◌≡◌, ℕ, suc, ◌+◌, ◌*◌, ◌<◌, ◌≤◌, Bool, true, false, cond, not, ◌||◌, eqb, ltb, leb, ◌⊎◌, List, [], ◌∷◌}
-use Rattle.std.proofs.Common.{◌++◌, length, get_or, take, drop, set, sym, refl, ap, ◌∙◌, subst, ap₂, inl, inr, append_assoc, append-nil}
-use Rattle.std.proofs.Common.{arith, length-append, length-take-le, drop-set-lt, ltb-true, le-ltb, lt-ltb, eq-eqb, ne_eqb, eqb-true}
+use Rattle.std.proofs.Common.{◌++◌, length, get_or, drop, set, sym, refl, ap, ◌∙◌, subst, ap₂, inl, inr, append_assoc, append-nil}
+use Rattle.std.proofs.Common.{arith, length-append, drop-set-lt, ltb-true, le-ltb, lt-ltb, eq-eqb, ne_eqb, eqb-true}
 use Rattle.std.proofs.Common.{le-leb, leb-false, leb-true}
 use mathlib.Core.List.Memᴰ.{head as here}
 use mathlib.Core.List.Memᴰ.{tail as there}
@@ -23,15 +23,14 @@ use Rattle.laws.specs.OneMore.{nodes-snoc, id_snoc}
 use Rattle.nodes.specs.Run.{Nodes, room, see, set_node}
 use Rattle.nodes.proofs.NodeRun.{length-set_node}
 use Rattle.nodes.specs.Insertion.{leaf, with_term, child_of, add_child, State, state, child_made, descend_on, Rooted, rooted, root_made}
-use Rattle.nodes.specs.Insertion.{Ended, finish_on, After, after, insert_on}
+use Rattle.nodes.specs.Insertion.{Entered, Ended, finish_on, After, after, insert_on}
 use Rattle.nodes.proofs.InsertionCases.{made-old, made-full, made-new, length-add_child, desc_zero, root-full, root-new, root-old}
 use Rattle.nodes.proofs.InsertionCases.{fin-none, fin-twice, fin-made, Sound, desc_sound, root-sound}
 use Rattle.nodes.specs.Stands.{num, Growing, Stands, answer_for, Grown, RootsKept}
-use Rattle.nodes.proofs.Chains.{snoc_mem, member, num-in, num-out, number-pos, number_lt, number-new, find-child, known-taken}
-use Rattle.nodes.proofs.Chains.{bytes_taken}
+use Rattle.nodes.proofs.Chains.{snoc_mem, member, num-in, num-out, number-pos, number_lt, number-new, find-child, bytes_of}
 use Rattle.nodes.proofs.Child.{child-keeps, root-keeps, id-keeps}
-use Rattle.nodes.specs.declared.Inserted.{Inserted}
-use Rattle.nodes.specs.declared.Inserted.TheVariants.{Duplicate, NoRoom, Made}
+use Rattle.std.specs.Prelude.{Ok, Err}
+use Rattle.refusals.specs.declared.Refusal.TheVariants.{SeenBefore, NodesFull}
 
 -- ---- nodes added one by one
 
@@ -319,10 +318,10 @@ module _ (ts : List Token) (rs : List ℕ) (m : Nodes) (S : Stands ts rs m) (cap
   old-token : (id_of ts p ≡ 0 → ⊥) → seen ts p ≡ true
   old-token n = seen-id ts p S.low ∙ ap not (ne_eqb (id_of ts p) 0 n)
 
-  not_made : {x : Inserted} (n : ℕ) → x ≡ NoRoom → x ≡ Made n → ⊥
+  not_made : {x : Entered} (n : ℕ) → x ≡ Err NodesFull → x ≡ Ok n → ⊥
   not_made n e k = let z : ◌≡◌ {A = ℕ} 0 1 = cc in omega arith
 
-  not-twice : {x : Inserted} (n : ℕ) → x ≡ Duplicate → x ≡ Made n → ⊥
+  not-twice : {x : Entered} (n : ℕ) → x ≡ Err SeenBefore → x ≡ Ok n → ⊥
   not-twice n e k = let z : ◌≡◌ {A = ℕ} 0 1 = cc in omega arith
 
   right : Grown ts t cap (finish_on s id).answer w.roots (finish_on s id).mem
@@ -363,7 +362,7 @@ module _ (ts : List Token) (rs : List ℕ) (m : Nodes) (S : Stands ts rs m) (cap
           let mem_is : set_node s.mem (number qs p) (with_term (see s.mem (number qs p)) id) ≡ (finish_on s id).mem =
           ap (λ (x : ℕ). set_node s.mem x (with_term (see s.mem x) id)) (sym r.at) ∙ sym (ap (λ (x : Ended). x.mem) d) in
           record {
-            answer = ap (λ (x : Ended). x.answer) d ∙ ap Made (r.count ∙ sym count-is)
+            answer = ap (λ (x : Ended). x.answer) d ∙ ap Ok (r.count ∙ sym count-is)
                 ∙ sym (no_case _ _ (new-token zero-id)
                 ∙ yes_case _ _ (le-leb (node_count (ts ++ (t ∷ []))) cap (let o = r.room-left in let c = count-is in omega arith)));
             stands = λ n k. record {
@@ -390,7 +389,7 @@ insert_at ts rs m S cap fit many have (a ∷ b ∷ l) two hb id idl idh =
 -- of an answer and a memory that are insert_on's
 pub insert_right : (ts : List Token) (rs : List ℕ) (m : Nodes) → Stands ts rs m → (cap : ℕ) → cap ≤ room m → 65536 ≤ length rs
     → (made : ℕ) → made ≡ node_count ts → made ≤ cap → (bs : List ℕ) → 2 ≤ length bs → Bytes bs → (id : ℕ) → 1 ≤ id → id < 65536
-    → (rs' : List ℕ) (m' : Nodes) (r : Inserted) → after rs' m' r ≡ insert_on cap rs m made bs id
+    → (rs' : List ℕ) (m' : Nodes) (r : Entered) → after rs' m' r ≡ insert_on cap rs m made bs id
     → Grown ts (record { id = id; bytes = bs }) cap r rs' m'
 unfolding node_count
 insert_right ts rs m S cap fit many made em have bs two hb id idl idh rs' m' r e =
@@ -468,7 +467,7 @@ roots_kept rs at new false q true a b c d h = refl
 roots_kept rs at new false q false a b c d h = refl
 
 pub insert_keeps : (most : ℕ) (rs : List ℕ) (ns : Nodes) (made : ℕ) (bs : List ℕ) (id : ℕ) → get_or bs 0 0 < 256 → get_or bs 1 0 < 256
-    → (rs' : List ℕ) (ns' : Nodes) (a : Inserted) → after rs' ns' a ≡ insert_on most rs ns made bs id → RootsKept rs rs'
+    → (rs' : List ℕ) (ns' : Nodes) (a : Entered) → after rs' ns' a ≡ insert_on most rs ns made bs id → RootsKept rs rs'
 unfolding insert_on root_made
 insert_keeps most rs ns made bs id h k rs' ns' a e =
     let at : ℕ = get_or bs 0 0 * 256 + get_or bs 1 0 in
@@ -477,16 +476,13 @@ insert_keeps most rs ns made bs id h k rs' ns' a e =
           ∙ roots_kept rs at made (eqb (get_or rs at 0) 0) (leb most made) (leb made (get_or rs at 0)) _ _ _ _ (omega arith);
     }
 
--- both, of the first n bytes
-pub insert_means : (cap : ℕ) (rs : List ℕ) (m : Nodes) (made id n : ℕ) (bytes rs' : List ℕ) (m' : Nodes) (r : Inserted)
-    → after rs' m' r ≡ insert_on cap rs m made (take n bytes) id → 65536 ≤ length rs → 2 ≤ n → n ≤ length bytes → made ≤ cap → cap ≤ room m
-    → id < 65536 → ((k : ℕ) → get_or bytes k 0 < 256)
+-- both
+pub insert_means : (cap : ℕ) (rs : List ℕ) (m : Nodes) (made id : ℕ) (bs rs' : List ℕ) (m' : Nodes) (r : Entered)
+    → after rs' m' r ≡ insert_on cap rs m made bs id → 65536 ≤ length rs → 2 ≤ length bs → made ≤ cap → cap ≤ room m
+    → id < 65536 → ((k : ℕ) → get_or bs k 0 < 256)
     → ((ts : List Token) → Stands ts rs m → made ≡ node_count ts → 1 ≤ id
-    → Grown ts (record { id = id; bytes = take n bytes }) cap r rs' m') × RootsKept rs rs'
-insert_means cap rs m made id n bytes rs' m' r e many two enough have fit hid known =
-    let t = known-taken n bytes known in
-    let b = bytes_taken n bytes known in
-    let long = subst (λ (k : ℕ). 2 ≤ k) (sym (length-take-le n bytes enough)) two in (
-      (λ ts S em low. insert_right ts rs m S cap fit many made em have (take n bytes) long b id low hid rs' m' r e),
-      insert_keeps cap rs m made (take n bytes) id (t 0) (t 1) rs' m' r e,
-    )
+    → Grown ts (record { id = id; bytes = bs }) cap r rs' m') × RootsKept rs rs'
+insert_means cap rs m made id bs rs' m' r e many two have fit hid known = (
+  (λ ts S em low. insert_right ts rs m S cap fit many made em have bs two (bytes_of bs known) id low hid rs' m' r e),
+  insert_keeps cap rs m made bs id (known 0) (known 1) rs' m' r e,
+)

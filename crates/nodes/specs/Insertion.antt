@@ -1,13 +1,13 @@
 -- What insertion does to any roots and nodes, whatever they hold: the code's steps, one definition each. A link to a node that is not made
 -- ends a walk, and no walk is longer than the number of nodes made. What it means where the memory stands for tokens is in Stands and Grow.
 -- Assumes nothing.
-use Rattle.std.specs.Prelude.{ℕ, zero, suc, ◌+◌, ◌*◌, ◌%◌, ◌^◌, cond, List, [], ◌∷◌, drop, ◌==◌, nat_le, slice_index, slice_set}
+use Rattle.std.specs.Prelude.{◌≡◌, ℕ, zero, suc, ◌+◌, ◌*◌, ◌%◌, ◌^◌, cond, List, [], ◌∷◌, drop, ◌==◌, nat_le, slice_index, slice_set}
+use Rattle.std.specs.Prelude.{Option, Some, None, Result, Ok, Err}
+use Rattle.refusals.specs.declared.Refusal.{Refusal}
+use Rattle.refusals.specs.declared.Refusal.TheVariants.{SeenBefore, NodesFull}
 use Rattle.nodes.specs.Run.{Nodes, see, set_node}
 use Rattle.nodes.specs.declared.Node.{Node}
 use Rattle.nodes.specs.declared.Place.{Place}
-use Rattle.nodes.specs.declared.Rooting.{Rooting}
-use Rattle.nodes.specs.declared.Inserted.{Inserted}
-use Rattle.nodes.specs.declared.Inserted.TheVariants.{Duplicate, NoRoom, Made}
 
 -- ---- a node by value
 
@@ -105,45 +105,48 @@ root_made cap rs m made at b =
     (cond (nat_le cap made) (rooted rs (state m 0 made)) (rooted (slice_set rs at made) (state (set_node m made (leaf b)) made (made + 1))))
     (cond (nat_le made (slice_index rs at)) (rooted rs (state m 0 made)) (rooted rs (state m (slice_index rs at) made)))
 
--- what a root that was found gives: the nodes with a leaf more where one is to be made
-abbrev pub root_given : List ℕ → Rooting → Nodes → ℕ → Rooted
-root_given rs r m b = rooted rs (state (cond r.new (set_node m r.place.node (leaf b)) m) r.place.node r.place.made)
+-- ---- what the code answers
 
--- the node of a root that was found: a leaf where it is to be made, else n
-abbrev pub root_node : Node → Rooting → ℕ → Node
-root_node n r b = cond r.new (leaf b) n
+-- the node of a link: 0 is none
+abbrev pub linked : ℕ → Option ℕ
+linked k = cond (k == 0) None (Some k)
+
+-- the place of a state, or 17 where its node is 0
+abbrev pub place_of : State → Result Place Refusal
+place_of s = cond (s.node == 0) (Err NodesFull) (Ok (record { node = s.node; made = s.made }))
+
+-- a step leaves the nodes of a state, and answers its place
+pub record StepTo (s : State) (m : Nodes) (r : Result Place Refusal) : Type 0 where
+  pub mem : m ≡ s.mem
+  pub place : r ≡ place_of s
 
 -- ---- a token
 
+-- how many nodes there are now, node 0 counted; or 16, or 17
+abbrev pub Entered : Type 0
+Entered = Result ℕ Refusal
+
 pub record Ended : Type 0 where
   pub mem : Nodes
-  pub answer : Inserted
+  pub answer : Entered
 
-abbrev pub ended : Nodes → Inserted → Ended
+abbrev pub ended : Nodes → Entered → Ended
 ended m r = record { mem = m; answer = r }
 
 -- the token of this id ends at the node reached
 unfoldable pub finish_on : State → ℕ → Ended
 finish_on s id =
-    cond (s.node == 0) (ended s.mem NoRoom)
+    cond (s.node == 0) (ended s.mem (Err NodesFull))
     (cond ((see s.mem s.node).term == 0)
-    (ended (set_node s.mem s.node (with_term (see s.mem s.node) id)) (Made s.made))
-    (ended s.mem Duplicate))
-
--- n, the node at a place, as the end of the token of this id; as it is where it is node 0 or a token ends there
-abbrev pub with_end : Node → Place → ℕ → Node
-with_end n at id = cond (at.node == 0) n (cond (n.term == 0) (with_term n id) n)
-
--- what is answered where a token leads to a place, whose node is n
-abbrev pub answer_at : Node → Place → Inserted
-answer_at n at = cond (at.node == 0) NoRoom (cond (n.term == 0) (Made at.made) Duplicate)
+    (ended (set_node s.mem s.node (with_term (see s.mem s.node) id)) (Ok s.made))
+    (ended s.mem (Err SeenBefore)))
 
 pub record After : Type 0 where
   pub roots : List ℕ
   pub mem : Nodes
-  pub answer : Inserted
+  pub answer : Entered
 
-abbrev pub after : List ℕ → Nodes → Inserted → After
+abbrev pub after : List ℕ → Nodes → Entered → After
 after rs m r = record { roots = rs; mem = m; answer = r }
 
 -- a token of two bytes or more

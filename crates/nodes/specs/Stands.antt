@@ -5,15 +5,16 @@
 -- what tail and the roots are while tokens are taken in. Threading and packing change tail and the roots, and keep the tree.
 -- Assumes nothing.
 use Rattle.std.specs.Prelude.{◌≡◌, ℕ, ◌+◌, ◌*◌, ◌<◌, ◌≤◌, cond, List, [], ◌∷◌, ◌++◌, length, drop, nat_le, slice_index}
+use Rattle.std.specs.Prelude.{Ok, Err}
 use mathlib.Core.List.{Memᴰ as Mem}
+use Rattle.refusals.specs.declared.Refusal.TheVariants.{SeenBefore, NodesFull}
 use Rattle.spec.specs.Lists.{has}
 use Rattle.spec.specs.Token.{Token, id_of, seen}
 use Rattle.spec.specs.Trie.{nodes, node_count}
 use Rattle.laws.specs.Numbered.{number, Fresh}
 use Rattle.laws.specs.Chain.{kids}
 use Rattle.nodes.specs.Run.{Nodes, see}
-use Rattle.nodes.specs.declared.Inserted.{Inserted}
-use Rattle.nodes.specs.declared.Inserted.TheVariants.{Duplicate, NoRoom, Made}
+use Rattle.nodes.specs.Insertion.{Entered}
 
 -- the last of a list, 0 if there is none
 unfoldable pub final : List ℕ → ℕ
@@ -72,13 +73,13 @@ pub record RootsKept (rs rs' : List ℕ) : Type 0 where
 -- ---- what insertion answers
 
 -- 16 "token bytes seen before"; then 17 "node capacity below 1 + distinct prefixes of two or more bytes, this token counted"
-unfoldable pub answer_for : List Token → Token → ℕ → Inserted
+unfoldable pub answer_for : List Token → Token → ℕ → Entered
 unfolding seen node_count
 answer_for ts t cap =
-    cond (seen ts t.bytes) Duplicate
-    (cond (nat_le (node_count (ts ++ (t ∷ []))) cap) (Made (node_count (ts ++ (t ∷ [])))) NoRoom)
+    cond (seen ts t.bytes) (Err SeenBefore)
+    (cond (nat_le (node_count (ts ++ (t ∷ []))) cap) (Ok (node_count (ts ++ (t ∷ [])))) (Err NodesFull))
 
 -- the answer, and what the memory stands for unless the token was refused
-pub record Grown (ts : List Token) (t : Token) (cap : ℕ) (r : Inserted) (rs : List ℕ) (m : Nodes) : Type 0 where
+pub record Grown (ts : List Token) (t : Token) (cap : ℕ) (r : Entered) (rs : List ℕ) (m : Nodes) : Type 0 where
   pub answer : r ≡ answer_for ts t cap
-  pub stands : (n : ℕ) → r ≡ Made n → Stands (ts ++ (t ∷ [])) rs m
+  pub stands : (n : ℕ) → r ≡ Ok n → Stands (ts ++ (t ∷ [])) rs m
