@@ -1,8 +1,8 @@
 -- A byte against the rules of the grammar: the tests of a `match`, as inequalities, decide which rule begins with it.
 -- Assumes nothing.
-use mathlib.Core.Path.{◌≡◌, refl, ◌∙◌, sym, subst}
+use mathlib.Core.Path.{◌≡◌, ◌∙◌, sym, subst}
 use mathlib.Core.Bool.{Bool, true, false, cond}
-use Rattle.std.specs.Prelude.{None, Some}
+use Rattle.std.specs.Prelude.{Some}
 use mathlib.Core.List.{List, [], ◌∷◌}
 use Prim.Native.Nat.{ℕ, zero, suc, ◌≤◌, ◌<◌}
 use native.Mathlib.Omega.{arith}
@@ -30,20 +30,6 @@ rule_at (r ∷ rs) (suc i) n h = rw (outside r.first n h.0) (rule_at rs i n h.1)
 pub after-at : (i n : ℕ) → unfold grammar in RuleAt grammar i n → after n ≡ unfold grammar in Some (others_at grammar i)
 unfolding after
 after-at i n h = rule_at grammar i n h
-
--- n lies in the first range of no rule
-abbrev pub NoRule : List Rule → ℕ → Type 0
-NoRule [] n = Unit {0}
-NoRule (r ∷ rs) n = Out r.first n × NoRule rs n
-
-no_rule : (rs : List Rule) (n : ℕ) → NoRule rs n → rule_for rs n ≡ None
-unfolding rule_for
-no_rule [] n h = refl
-no_rule (r ∷ rs) n h = rw (outside r.first n h.0) (no_rule rs n h.1)
-
-pub after_none : (n : ℕ) → unfold grammar in NoRule grammar n → after n ≡ None
-unfolding after
-after_none n h = no_rule grammar n h
 
 -- only the first rule ends a character with its first byte
 abbrev Longer : List Rule → Type 0

@@ -7,9 +7,9 @@ use Prim.Native.Nat.{ℕ, zero, suc, ◌+◌, ◌-◌, ◌≤◌, ◌<◌}
 use native.Mathlib.Numerals.{add-one}
 use native.Mathlib.Omega.{arith}
 use lib.ListN.{length, get_or, drop, replicate, length-drop, drop_of_length-le}
-use lib.Seq.{drop-cons, drop-drop}
+use lib.Seq.{drop-cons, drop-drop, take_all}
 use Rattle.spec.specs.Utf8.{Range, ◌to◌, within, tail, grammar, after, Step, char, bad, cut, is_char, follow, followed, step_of}
-use Rattle.laws.specs.Utf8Laws.{step_nil, step_cons, char_within, first-bad_nil, first-bad-char, first-bad-other}
+use Rattle.laws.specs.Utf8Laws.{step_nil, step_cons, char_within, first-bad_nil, first-bad_zero, first-bad-char, first-bad-other}
 use Rattle.spec.specs.Utf8.{first_bad_from}
 use Rattle.utf8.specs.declared.Step.{Step as Found}
 use Rattle.utf8.specs.declared.Step.TheVariants.{Char, Bad, Cut}
@@ -92,3 +92,9 @@ module _ (s : List ℕ) (i : ℕ) (h : i < length s) where
 
   pub first-other : (t : Step) → step_of (drop i s) ≡ t → is_char t ≡ false → first_bad_from i (drop i s) ≡ Some i
   first-other t e f = first-bad-other (drop i s) some_left i t e f
+
+-- what one turn of `first_bad` needs
+pub ruleset bad_turns = (first-bad_zero, no_char, char-size, ascii-char, first_char, first-other, first-end)
+
+-- what one turn of `step_at` needs
+pub ruleset step_turns = (step_past, step_first, walk_done, walk_cut, walk-bad, walk-on, take_all, length-drop)

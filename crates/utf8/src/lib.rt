@@ -2,101 +2,102 @@
 // its contract is an equation with a definition of `spec`.
 #![tactic(auto)]
 
-ghost use Rattle.std.specs.Prelude.{◌≡◌, drop};
+ghost use Rattle.std.specs.Prelude.{◌≡◌, option_map, drop};
 ghost use Rattle.spec.specs.Utf8.{◌to◌, within, after, step_of, first_bad};
-ghost use Rattle.utf8.specs.Means.{lead_means, step_means, text_means};
+ghost use Rattle.utf8.specs.Means.{lead_means, step_means};
 
-// What the first byte of a character says: so many bytes must follow, the first of them from a low to a high end and the others
-// from 80 to BF; or that no character begins with it.
-#[derive(Clone, Copy)]
-pub enum Lead {
-    Nothing,
-    Follow(usize, u8, u8),
+/// What the first byte of a character says: so many bytes must follow, the first of them from `low` to `high` and the others from 80
+/// to BF.
+#[derive(Clone, Copy, Debug, PartialEq, Eq)]
+pub struct Lead {
+    pub more: usize,
+    pub low: u8,
+    pub high: u8,
 }
 
-// The rule of the grammar that begins with `b`.
-pub fn lead_of(b: u8) -> Lead
-    ensures { lead_means result ≡ after b }
-{
-    match b {
-        0x00..=0x7f => Lead::Follow(0, 0, 0),
-        0xc2..=0xdf => Lead::Follow(1, 0x80, 0xbf),
-        0xe0 => Lead::Follow(2, 0xa0, 0xbf),
-        0xe1..=0xec => Lead::Follow(2, 0x80, 0xbf),
-        0xed => Lead::Follow(2, 0x80, 0x9f),
-        0xee..=0xef => Lead::Follow(2, 0x80, 0xbf),
-        0xf0 => Lead::Follow(3, 0x90, 0xbf),
-        0xf1..=0xf3 => Lead::Follow(3, 0x80, 0xbf),
-        0xf4 => Lead::Follow(3, 0x80, 0x8f),
-        _ => Lead::Nothing,
+impl Lead {
+    /// Whether the first byte that must follow may be `b`.
+    pub fn allows(self, b: u8) -> bool
+        ensures { result ≡ within (self.low to self.high) b }
+    {
+        self.low <= b && b <= self.high
     }
 }
 
-// Whether `b` is from `low` to `high`.
-pub fn in_range(b: u8, low: u8, high: u8) -> bool
-    ensures { result ≡ within (low to high) b }
+#[tactic(auto, unfolding(spec::specs::Utf8::after, spec::specs::Utf8::rule_for, spec::specs::Utf8::grammar))]
+/// The rule of the grammar that begins with `b`; none if no character begins with it.
+pub fn lead_of(b: u8) -> Option<Lead>
+    ensures { option_map lead_means result ≡ after b }
 {
-    low <= b && b <= high
+    let (more, low, high) = match b {
+        0x00..=0x7f => (0, 0, 0),
+        0xc2..=0xdf => (1, 0x80, 0xbf),
+        0xe0 => (2, 0xa0, 0xbf),
+        0xe1..=0xec => (2, 0x80, 0xbf),
+        0xed => (2, 0x80, 0x9f),
+        0xee..=0xef => (2, 0x80, 0xbf),
+        0xf0 => (3, 0x90, 0xbf),
+        0xf1..=0xf3 => (3, 0x80, 0xbf),
+        0xf4 => (3, 0x80, 0x8f),
+        _ => return None,
+    };
+    Some(Lead { more, low, high })
 }
 
-// What stands at a place of a byte string: a character, a maximal ill-formed part, or the beginning of a character that the end
-// cuts off, each with its number of bytes.
-#[derive(Clone, Copy)]
+/// What stands at a place of a byte string: a character, a maximal ill-formed part, or the beginning of a character that the end
+/// cuts off, each with its number of bytes.
+#[derive(Clone, Copy, Debug, PartialEq, Eq)]
 pub enum Step {
     Char(usize),
     Bad(usize),
     Cut(usize),
 }
 
-// The step at `at`; at or past the end it is cut off after 0 bytes.
+#[tactic(auto, using(crate::proofs::StepTurns::step_turns))]
+/// The step at `at`; at or past the end it is cut off after 0 bytes.
 pub fn step_at(s: &[u8], at: usize) -> Step
     ensures { step_means result ≡ step_of (drop at s.now) }
 {
-    if s.len() <= at {
+    let Some(&first) = s.get(at) else {
         return Step::Cut(0);
-    }
-    let Lead::Follow(more, first_low, first_high) = lead_of(s[at]) else {
+    };
+    let Some(lead) = lead_of(first) else {
         return Step::Bad(1);
     };
-    let mut left = more;
-    let mut low = first_low;
-    let mut high = first_high;
-    let mut n = 1;
-    while 0 < left {
-        if s.len() - at <= n {
-            return Step::Cut(n);
+    let others = &s[at + 1..];
+    let mut left = lead;
+    for n in 0..lead.more {
+        let Some(&b) = others.get(n) else {
+            return Step::Cut(n + 1);
+        };
+        if !left.allows(b) {
+            return Step::Bad(n + 1);
         }
-        if !in_range(s[at + n], low, high) {
-            return Step::Bad(n);
-        }
-        left -= 1;
-        low = 0x80;
-        high = 0xbf;
-        n += 1;
+        left = Lead {
+            more: left.more - 1,
+            low: 0x80,
+            high: 0xbf,
+        };
     }
-    Step::Char(n)
+    Step::Char(lead.more + 1)
 }
 
-// Whether a byte string is UTF-8, and the first bad offset if not.
-#[derive(Clone, Copy)]
-pub enum Text {
-    WellFormed,
-    BadAt(usize),
-}
-
-pub fn first_bad(s: &[u8]) -> Text
-    ensures { text_means result ≡ first_bad s.now }
+#[tactic(auto, using(crate::proofs::StepTurns::bad_turns))]
+/// The first bad offset of a byte string; none if it is UTF-8.
+pub fn first_bad(s: &[u8]) -> Option<usize>
+    ensures { result ≡ first_bad s.now }
 {
+    // Kept: a character has one to four bytes, so no range gives the places; std's from_utf8 goes by a definition of its own.
     let mut i = 0;
     while i < s.len() {
         if s[i] < 0x80 {
             i += 1;
         } else {
             let Step::Char(n) = step_at(s, i) else {
-                return Text::BadAt(i);
+                return Some(i);
             };
             i += n;
         }
     }
-    Text::WellFormed
+    None
 }
