@@ -1,28 +1,18 @@
--- `matching::row_open` meets its contract. The loop's invariant: the rest of the row has a word just where the row has. Assumes nothing.
-use mathlib.Core.Path.{refl, ◌∙◌}
-use native.Mathlib.Omega.{arith}
-use Rattle.spec.specs.Memory.{memory}
-use Rattle.matching.proofs.Row.{row_ends, row_word, row_next, row_is}
+-- `matching::row_open` meets its contract: `any` over the row of roots is that of the definition. Assumes nothing.
+use Rattle.std.proofs.Common.{◌≡◌, ℕ, ◌+◌, ◌-◌, ◌*◌, not, eqb, take, drop, ap₂, ◌∙◌, rules, tests, arith}
+use Rattle.std.proofs.lemmas.Iterator.{YieldsList-from_slice}
+use Rattle.std.proofs.lemmas.Iterator.Search.{any_from_yields_List}
+use Rattle.spec.specs.Lists.{any}
+use Rattle.spec.specs.Match.{undecided_on}
+use Rattle.matching.proofs.Row.{list_any-is}
 use Rattle.matching.proofs.row_open.Goals as goal
 
-pub loop-i-init : goal.loop-i-init
-loop-i-init c = (omega arith, refl)
-
-pub returns-then-roots-i-ne0 : goal.returns-then-roots-i-ne0
-returns-then-roots-i-ne0 c single offsets blob table =
-    row_word _ _ _ c.loop-i-test.true (omega arith) c.if-roots-i-ne0.true
-    ∙ c.loop-i.invariant.1
-    ∙ row_is (memory single offsets blob _ table) _ (omega arith)
-
-pub loop-i-preserved : goal.loop-i-preserved
-loop-i-preserved c = (
-  omega arith,
-  row_next _ _ _ c.loop-i-test.true (omega arith) c.if-roots-i-ne0.false
-      ∙ c.loop-i.invariant.1,
-)
-
 pub returns : goal.returns
-returns c single offsets blob table =
-    row_ends _ _ _ c.loop-i-test.false
-    ∙ c.loop-i.invariant.1
-    ∙ row_is (memory single offsets blob _ table) _ (omega arith)
+unfolding undecided_on
+returns c =
+    let row = c.from-row.result in
+    let wide : row * 256 + 256 - row * 256 ≡ 256 = omega arith in
+    any_from_yields_List (λ (w : ℕ). not (eqb w 0)) _ _ c.any.result c.any.ensures.ran
+    (YieldsList-from_slice _ c.iter.ensures.rest) (λ x b q k. search (rules, tests))
+    ∙ list_any-is (λ w. not (eqb w 0)) (take (row * 256 + 256 - row * 256) (drop (row * 256) c.args.memory.roots.now))
+    ∙ ap₂ (λ (n r : ℕ). any (λ w. not (eqb w 0)) (take n (drop (r * 256) c.args.memory.roots.now))) wide c.from-row.ensures
