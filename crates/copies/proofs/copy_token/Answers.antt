@@ -1,25 +1,15 @@
--- `copies::copy_token` meets its contract, whichever copy is taken. Assumes nothing.
-use Prim.Native.Nat.{◌+◌}
-use native.Mathlib.Omega.{arith}
-use lib.ListN.{take, drop}
-use Rattle.copies.proofs.TokenCopies.{placed, placed-later}
+-- `copies::copy_token` meets its contract: eight bytes begin with the token's. Assumes nothing.
+use Rattle.std.proofs.Common.{◌≡◌, ℕ, ◌≤◌, List, ◌++◌, length, take, ap, ◌∙◌, arith}
+use Rattle.std.proofs.Math.Seq.{take-take, length-take-le}
+use Rattle.std.proofs.lemmas.List.{take-append-le}
+use Rattle.std.specs.Array.{IsFirstChunk}
 use Rattle.copies.proofs.copy_token.Goals as goal
 
-pub returns-then-len-le8 : goal.returns-then-len-le8
-returns-then-len-le8 c =
-    let a = c.args in
-    rw c.copy8.ensures
-    (placed a.dst.now a.at a.src.now a.start a.len 8 a.end (omega arith) (omega arith) (omega arith) (omega arith))
+front-of_chunk : (s chunk rest : List ℕ) (len n : ℕ) → IsFirstChunk s chunk n → len ≤ n → take len (chunk ++ rest) ≡ take len s
+front-of_chunk s chunk rest len n e h =
+    let size : length chunk ≡ n = ap length e.same ∙ length-take-le n s e.enough in
+    take-append-le len chunk rest (omega arith) ∙ ap (take len) e.same ∙ take-take len n s h
 
-pub returns-then-end-at : goal.returns-then-end-at
-returns-then-end-at c =
-    let a = c.args in
-    placed-later a.dst.now a.at (take a.len (drop a.start a.src.now)) (a.at + a.len + 8) a.end _
-    (omega arith) c.copy_eights.ensures
-
-pub returns : goal.returns
-returns c =
-    let a = c.args in
-    rw c.copy.ensures
-    (placed a.dst.now a.at a.src.now a.start a.len a.len a.end (omega arith) (omega arith) (omega arith)
-    (omega arith))
+pub returns-in-Some-Some : goal.returns-in-Some-Some
+returns-in-Some-Some c =
+    front-of_chunk c.args.from.now c.in-Some-Some.eight.now _ c.args.len 8 c.in-Some-Some.ensures.cases (omega arith)
