@@ -1,5 +1,4 @@
 -- Lemmas that several proofs cite, and that the table of RFC 3629 and its grammar agree.
-mod FirstBytes
-mod WhiteRanges
-mod BlankTurns
+mod Table
+pub mod BlankTurns
 pub mod Points

@@ -24,8 +24,8 @@ impl Lead {
     }
 }
 
-#[tactic(auto, unfolding(spec::specs::Utf8::after, spec::specs::Utf8::rule_for, spec::specs::Utf8::grammar))]
 /// The rule of the grammar that begins with `b`; none if no character begins with it.
+#[tactic(auto, unfolding(spec::specs::Utf8::after, spec::specs::Utf8::rule_for, spec::specs::Utf8::grammar))]
 pub fn lead_of(b: u8) -> Option<Lead>
     ensures { option_map lead_means result ≡ after b }
 {
@@ -53,8 +53,8 @@ pub enum Step {
     Cut(usize),
 }
 
-#[tactic(auto, using(crate::proofs::StepTurns::step_turns))]
 /// The step at `at`; at or past the end it is cut off after 0 bytes.
+#[tactic(auto, using(crate::proofs::StepTurns::step_turns))]
 pub fn step_at(s: &[u8], at: usize) -> Step
     ensures { step_means result ≡ step_of (drop at s.now) }
 {
@@ -82,8 +82,8 @@ pub fn step_at(s: &[u8], at: usize) -> Step
     Step::Char(lead.more + 1)
 }
 
-#[tactic(auto, using(crate::proofs::StepTurns::bad_turns))]
 /// The first bad offset of a byte string; none if it is UTF-8.
+#[tactic(auto, using(crate::proofs::StepTurns::bad_turns))]
 pub fn first_bad(s: &[u8]) -> Option<usize>
     ensures { result ≡ first_bad s.now }
 {
