@@ -1,97 +1,24 @@
 -- Numbers in digits, read from a place of a list: one law for each way a turn of a reader can go. Assumes nothing.
-use mathlib.Core.Path.{◌≡◌, refl, sym, ap, ap₂, ◌∙◌, subst}
-use mathlib.Core.Bool.{Bool, true, false, ◌&&◌, false≢true}
-use Rattle.std.specs.Prelude.{Option, None, Some}
+use Rattle.std.proofs.Common.{◌≡◌, refl, sym, ap, ◌∙◌, subst, ℕ, zero, suc, ◌+◌, ◌*◌, ◌-◌, ◌^◌, ◌≤◌, ◌<◌, min, zero-add, add-zero}
+use Rattle.std.proofs.Common.{add-one, Bool, true, false, Option, None, Some, List, [], ◌∷◌, length, take, drop, slice_range, get_or}
+use Rattle.std.proofs.Common.{arith, eqb, length-take, drop_of_length-le, drop-cons, le-leb, eqb-true, true≢false}
+use Rattle.std.proofs.Math.Nat.{sub-zero}
+use Rattle.std.proofs.lemmas.Bool.{false≢true, lt-leb}
 use Rattle.spec.specs.Options.{bind}
-use mathlib.Core.List.{List, [], ◌∷◌}
-use Prim.Native.Nat.{ℕ, suc, ◌+◌, ◌*◌, ◌-◌, ◌^◌, ◌≤◌, ◌<◌}
-use native.Mathlib.Nat.{add-zero, le_of_eq, le_trans, pow-le-pow_right}
-use native.Mathlib.Numerals.{add-one}
-use native.Mathlib.Omega.{arith}
-use lib.ListN.{length, take, drop, get_or, length-drop, drop_of_length-le}
-use lib.Seq.{drop-cons, take_all}
-use lib.Dec.{eqb, leb}
-use borrow.Author.Tests.{le-leb, lt-leb, eqb-true}
 use Rattle.spec.specs.Utf8.{◌to◌, within}
-use Rattle.spec.specs.Digits.{digit, digits_after, at_most, digits, hex_digit, hex_after, octal_digit, Octal, octal_after, octal_run}
-use Rattle.numbers.proofs.HexCode.{hex_value, is_code, by_code}
+use Rattle.spec.specs.Digits.{digit, digits_after, at_most, digits, hex_digit, hex_after, hex_run, octal_digit, Octal, one_more}
+use Rattle.spec.specs.Digits.{octal_after, octal_run}
+use Rattle.laws.specs.Utf8Laws.{Out, inside, outside}
+use Rattle.numbers.proofs.HexCode.{by_code}
 use Rattle.laws.specs.Tests.{all_below, below}
-use Rattle.laws.specs.LiteralLaws.{octal-some, octal-none, octal_count, octal_digits_lt, octal_run_lt}
-
--- ── Parts ────────────────────────────────────────────────────────────
-
--- the part of a slice from n on is what is left of it
-pub part-from : (n : ℕ) (s : List ℕ) → take (length s - n) (drop n s) ≡ drop n s
-part-from n s = take_all (length s - n) (drop n s) (le_of_eq (length-drop n s))
-
--- ── Ranges ───────────────────────────────────────────────────────────
-
-module _ (low high : ℕ) {b : ℕ} where
-  pub in-range : low ≤ b → b ≤ high → within (low to high) b ≡ true
-  in-range h k = ap₂ ◌&&◌ (le-leb low b h) (le-leb b high k)
-
-  pub below-range : b < low → within (low to high) b ≡ false
-  below-range h = ap (λ (t : Bool). t && leb b high) (lt-leb low b h)
-
-  pub above-range : high < b → within (low to high) b ≡ false
-  above-range h = ap (λ (t : Bool). leb low b && t) (lt-leb b high h) ∙ no_second (leb low b)
-    where
-      no_second : (t : Bool) → (t && false) ≡ false
-      no_second true = refl
-      no_second false = refl
+use Rattle.laws.specs.LiteralLaws.{octal_grows, octal-some, octal-none, octal_count, octal_digits_lt, octal_run_lt}
 
 -- ── Decimal ──────────────────────────────────────────────────────────
-
-pub digit-yes : {b d : ℕ} → 0x30 ≤ b → b ≤ 0x39 → d ≡ b - 0x30 → digit b ≡ Some d
-unfolding digit
-digit-yes h k e = rw (in-range 0x30 0x39 h k, e)
-
-pub digit-below : {b : ℕ} → b < 0x30 → digit b ≡ None
-unfolding digit
-digit-below h = rw (below-range 0x30 0x39 h)
-
-pub digit-above : {b : ℕ} → 0x39 < b → digit b ≡ None
-unfolding digit
-digit-above h = rw (above-range 0x30 0x39 h)
 
 -- what a reader with the value v finds in the rest s
 unfoldable pub rest : ℕ → ℕ → List ℕ → Option ℕ
 unfolding bind digits_after at_most
 rest limit v s = bind (digits_after v s) (at_most limit)
-
-module _ (limit : ℕ) (s : List ℕ) where
-  -- a digit at the place: the number goes on behind it
-  pub digit-goes : (i v d : ℕ) → i < length s → digit (get_or s i 0) ≡ Some d
-      → rest limit v (drop i s) ≡ rest limit (v * 10 + d) (drop (i + 1) s)
-  unfolding rest
-  digit-goes i v d h e = rw (drop-cons s i 0 h, e, add-one)
-
-  -- another byte at the place: no number
-  pub digit-stops : (i v : ℕ) → i < length s → digit (get_or s i 0) ≡ None → rest limit v (drop i s) ≡ None
-  unfolding rest
-  digit-stops i v h e = rw (drop-cons s i 0 h, e)
-
-  -- the end: the value itself
-  pub digit-ends : (i v : ℕ) → length s ≤ i → v ≤ limit → rest limit v (drop i s) ≡ Some v
-  unfolding rest
-  digit-ends i v h k = rw (drop_of_length-le s h, le-leb v limit k)
-
-  -- the whole text
-  pub digits-some : 0 < length s → rest limit 0 (drop 0 s) ≡ digits limit s
-  unfolding digits rest
-  digits-some h = go s h
-    where
-      go : (t : List ℕ) → 0 < length t → bind (digits_after 0 t) (at_most limit) ≡ digits limit t
-      go [] h = absurd (omega arith)
-      go (b ∷ t) h = refl
-
-  pub digits-none : length s ≡ 0 → digits limit s ≡ None
-  unfolding digits
-  digits-none h = go s h
-    where
-      go : (t : List ℕ) → length t ≡ 0 → digits limit t ≡ None
-      go [] h = refl
-      go (b ∷ t) h = absurd (omega arith)
 
 -- a number above the limit stays above it
 pub too_much : (limit v : ℕ) (s : List ℕ) → limit < v → rest limit v s ≡ None
@@ -103,6 +30,47 @@ too_much limit v (b ∷ s) h = go (digit b) (λ (d : ℕ). too_much limit (v * 1
         → bind (bind o (λ d. digits_after (v * 10 + d) s)) (at_most limit) ≡ None
     go None f = refl
     go (Some d) f = f d
+
+module _ (limit : ℕ) (s : List ℕ) where
+  -- the whole text
+  pub digits-some : eqb (length s) 0 ≡ false → rest limit 0 s ≡ digits limit s
+  unfolding digits rest
+  digits-some h = go s h
+    where
+      go : (t : List ℕ) → eqb (length t) 0 ≡ false → bind (digits_after 0 t) (at_most limit) ≡ digits limit t
+      go [] h = absurd (true≢false h)
+      go (b ∷ t) h = refl
+
+  pub digits-none : eqb (length s) 0 ≡ true → digits limit s ≡ None
+  unfolding digits
+  digits-none h = go s h
+    where
+      go : (t : List ℕ) → eqb (length t) 0 ≡ true → digits limit t ≡ None
+      go [] h = refl
+      go (b ∷ t) h = absurd (let e = eqb-true (suc (length t)) 0 h in omega arith)
+
+  module _ (i v : ℕ) (h : i < length s) where
+    -- a digit at the place: the number goes on behind it
+    pub rest-digit : within (0x30 to 0x39) (get_or s i 0) ≡ true → (w : ℕ) → w ≡ v * 10 + (get_or s i 0 - 0x30)
+        → rest limit v (drop i s) ≡ rest limit w (drop (i + 1) s)
+    unfolding rest digit
+    rest-digit e w q = rw (drop-cons s i 0 h, e, add-one, q)
+
+    -- another byte at the place: no number
+    pub rest-other : within (0x30 to 0x39) (get_or s i 0) ≡ false → rest limit v (drop i s) ≡ None
+    unfolding rest digit
+    rest-other e = rw (drop-cons s i 0 h, e)
+
+    -- a number that is above the limit behind the digit
+    pub rest-over : within (0x30 to 0x39) (get_or s i 0) ≡ true → limit < v * 10 + (get_or s i 0 - 0x30) → rest limit v (drop i s) ≡ None
+    rest-over e o = rest-digit e _ refl ∙ too_much limit _ (drop (i + 1) s) o
+
+  -- the end: the value itself
+  pub rest-end : (i v : ℕ) → length s ≤ i → v ≤ limit → rest limit v (drop i s) ≡ Some v
+  unfolding rest
+  rest-end i v h k = rw (drop_of_length-le s h, le-leb v limit k)
+
+pub ruleset decimals = (rest-digit, rest-other, rest-over, rest-end, digits-some, digits-none)
 
 -- ── Hexadecimal ──────────────────────────────────────────────────────
 
@@ -119,104 +87,116 @@ alike-eq None (Some w) e = absurd (false≢true e)
 alike-eq (Some v) None e = absurd (false≢true e)
 alike-eq (Some v) (Some w) e = ap Some (eqb-true v w e)
 
--- it gives each of the 256 bytes what the definition gives, by computation
+-- the arithmetic gives each of the 256 bytes what the definition gives, by computation
 all_alike : all_below 256 (λ b. alike (hex_digit b) (by_code b)) ≡ true
 unfolding all_below hex_digit
 all_alike = refl
 
-by_code_lem : (b : ℕ) → b < 256 → hex_digit b ≡ by_code b
+pub by_code_lem : (b : ℕ) → b < 256 → hex_digit b ≡ by_code b
 by_code_lem b h = alike-eq (hex_digit b) (by_code b) (below 256 (λ b. alike (hex_digit b) (by_code b)) all_alike b h)
 
--- one law for each way that its test can come out
-module _ (b : ℕ) (byte : b < 256) where
-  pub hex-none : is_code b ≡ false → hex_digit b ≡ None
-  hex-none h = by_code_lem b byte ∙ rw h
+-- too few bytes for a run
+pub hex-short : (v n : ℕ) (s : List ℕ) → length s < n → hex_after v n s ≡ None
+unfolding hex_after
+hex-short v zero s h = absurd (omega arith)
+hex-short v (suc n) [] h = refl
+hex-short v (suc n) (b ∷ s) h = go (hex_digit b) (λ (d : ℕ). hex-short (v * 16 + d) n s (omega arith))
+  where
+    go : (o : Option ℕ) → ((d : ℕ) → hex_after (v * 16 + d) n s ≡ None) → bind o (λ d. hex_after (v * 16 + d) n s) ≡ None
+    go None f = refl
+    go (Some d) f = f d
 
-  pub hex-some : is_code b ≡ true → {v : ℕ} → v ≡ hex_value b → hex_digit b ≡ Some v
-  hex-some h e = by_code_lem b byte ∙ rw (h, e)
+-- what a reader with the value v finds in the rest s, all of it
+unfoldable pub all_hex : ℕ → List ℕ → Option ℕ
+unfolding hex_after
+all_hex v s = hex_after v (length s) s
 
--- one digit is left, and others
-suc_left : (count i : ℕ) → i < count → count - i ≡ suc (count - (i + 1))
-suc_left count i h = omega arith
+-- a run is its part of the text, if there is as much
+hex-part : (v n : ℕ) (s : List ℕ) → n ≤ length s → all_hex v (take n s) ≡ hex_after v n s
+unfolding all_hex
+hex-part v zero s h = refl
+hex-part v (suc n) [] h = absurd (omega arith)
+hex-part v (suc n) (b ∷ s) h = go (hex_digit b) (λ (d : ℕ). hex-part (v * 16 + d) n s (omega arith))
+  where
+    go : (o : Option ℕ) → ((d : ℕ) → hex_after (v * 16 + d) (length (take n s)) (take n s) ≡ hex_after (v * 16 + d) n s)
+        → bind o (λ d. hex_after (v * 16 + d) (length (take n s)) (take n s)) ≡ bind o (λ d. hex_after (v * 16 + d) n s)
+    go None f = refl
+    go (Some d) f = f d
+
+pub hex-start : (n : ℕ) (s : List ℕ) → n ≤ length s → all_hex 0 (slice_range s 0 n) ≡ hex_run n s
+hex-start n s h = rw sub-zero (hex-part 0 n s h)
 
 -- a run read up to the place i, with the value v so far
-module _ (s : List ℕ) (count i v : ℕ) (more : i < count) where
-  pub hex-goes : (d : ℕ) → i < length s → hex_digit (get_or s i 0) ≡ Some d
-      → hex_after v (count - i) (drop i s) ≡ hex_after (v * 16 + d) (count - (i + 1)) (drop (i + 1) s)
-  unfolding hex_after
-  hex-goes d h e = rw (suc_left count i more, drop-cons s i 0 h, e, add-one)
+module _ (s : List ℕ) (i v : ℕ) where
+  pub hex-digit : i < length s → (d : ℕ) → hex_digit (get_or s i 0) ≡ Some d
+      → all_hex (v * 16 + d) (drop (i + 1) s) ≡ all_hex v (drop i s)
+  unfolding all_hex
+  hex-digit h d e = rw (drop-cons s i 0 h, hex_after, e, add-one)
 
-  pub hex-stops : i < length s → hex_digit (get_or s i 0) ≡ None → hex_after v (count - i) (drop i s) ≡ None
-  unfolding hex_after
-  hex-stops h e = rw (suc_left count i more, drop-cons s i 0 h, e)
+  pub hex-other : i < length s → hex_digit (get_or s i 0) ≡ None → all_hex v (drop i s) ≡ None
+  unfolding all_hex
+  hex-other h e = rw (drop-cons s i 0 h, hex_after, e)
 
-  pub hex-short : length s ≤ i → hex_after v (count - i) (drop i s) ≡ None
-  unfolding hex_after
-  hex-short h = rw (suc_left count i more, drop_of_length-le s h)
+  pub hex-end : length s ≤ i → all_hex v (drop i s) ≡ Some v
+  unfolding all_hex
+  hex-end h = rw (drop_of_length-le s h)
 
-pub hex_ends : (s : List ℕ) (count i v : ℕ) → count ≤ i → hex_after v (count - i) s ≡ Some v
-unfolding hex_after
-hex_ends s count i v h = let e : count - i ≡ 0 = omega arith in rw e
-
--- eight digits fit 32 bits
-pub hex_fits : (i v : ℕ) → i ≤ 8 → v < 16 ^ i → v < 4294967296
-hex_fits i v h k = le_trans k (pow-le-pow_right (omega arith) h)
+pub ruleset hexes = (hex-short, hex-start, hex-digit, hex-other, hex-end)
 
 -- ── Octal ────────────────────────────────────────────────────────────
-
-pub octal_yes : {b d : ℕ} → 0x30 ≤ b → b ≤ 0x37 → d ≡ b - 0x30 → octal_digit b ≡ Some d
-unfolding octal_digit
-octal_yes h k e = rw (in-range 0x30 0x37 h k, e)
-
-pub octal_below : {b : ℕ} → b < 0x30 → octal_digit b ≡ None
-unfolding octal_digit
-octal_below h = rw (below-range 0x30 0x37 h)
-
-pub octal_above : {b : ℕ} → 0x37 < b → octal_digit b ≡ None
-unfolding octal_digit
-octal_above h = rw (above-range 0x30 0x37 h)
 
 -- i digits are read, and the rest is o
 abbrev pub behind : ℕ → Octal → Octal
 behind i o = record { value = o.value; count = i + o.count }
 
--- a run of at most `most` digits, read up to the place i, with the value v so far
-module _ (s : List ℕ) (most i v : ℕ) where
-  abbrev pub ahead : Octal
-  ahead = behind i (octal_after v (most - i) (drop i s))
+-- what a reader with the value v, which has read i digits, finds in the rest s, all of it
+unfoldable pub ahead : ℕ → ℕ → List ℕ → Octal
+unfolding octal_after
+ahead i v s = behind i (octal_after v (length s) s)
 
-  -- what a reader answers that stops here
-  abbrev stops : Type 0
-  stops = record { value = v; count = i } ≡ ahead
-
-  pub octal_ends : most ≤ i → stops
-  unfolding octal_after
-  octal_ends h = let e : most - i ≡ 0 = omega arith in rw (e, add-zero)
-
-  module _ (more : i < most) where
-    pub octal-short : length s ≤ i → stops
-    unfolding octal_after
-    octal-short h = rw (suc_left most i more, drop_of_length-le s h, add-zero)
-
-    module _ (h : i < length s) where
-      cons : octal_after v (most - i) (drop i s) ≡ octal_after v (suc (most - (i + 1))) (get_or s i 0 ∷ drop (i + 1) s)
-      cons = rw (suc_left most i more, drop-cons s i 0 h, add-one)
-
-      pub octal-stops : octal_digit (get_or s i 0) ≡ None → stops
-      octal-stops e = rw (cons, octal-none v (most - (i + 1)) (get_or s i 0) (drop (i + 1) s) e, add-zero)
-
-pub octal_goes : (s : List ℕ) (most i v : ℕ) → i < most → i < length s → (d : ℕ) → octal_digit (get_or s i 0) ≡ Some d
-    → ahead s most (i + 1) (v * 8 + d) ≡ ahead s most i v
-octal_goes s most i v more h d e =
-    sym (ap (behind i) (cons s most i v more h ∙ octal-some v (most - (i + 1)) (get_or s i 0) (drop (i + 1) s) d e)
-    ∙ rw (step (octal_after (v * 8 + d) (most - (i + 1)) (drop (i + 1) s)).count))
+-- a run is its part of the text, which is shorter where the text is
+octal-part : (v n k : ℕ) (s : List ℕ) → k ≡ min n (length s) → octal_after v (length (take k s)) (take k s) ≡ octal_after v n s
+unfolding octal_after
+octal-part v zero k s h = let e : k ≡ 0 = omega arith in rw e
+octal-part v (suc n) k [] h = let e : k ≡ 0 = omega arith in rw e
+octal-part v (suc n) zero (b ∷ s) h = absurd (omega arith)
+octal-part v (suc n) (suc k) (b ∷ s) h = go (octal_digit b) refl (λ (d : ℕ). octal-part (v * 8 + d) n k s (omega arith))
   where
-    step : (k : ℕ) → i + suc k ≡ i + 1 + k
-    step k = omega arith
+    t : List ℕ
+    t = take k s
 
--- three digits are below 512
-pub octal_fits : (i v : ℕ) → i ≤ 3 → v < 8 ^ i → v < 512
-octal_fits i v h k = le_trans k (pow-le-pow_right (omega arith) h)
+    go : (o : Option ℕ) → octal_digit b ≡ o → ((d : ℕ) → octal_after (v * 8 + d) (length t) t ≡ octal_after (v * 8 + d) n s)
+        → octal_after v (suc (length t)) (b ∷ t) ≡ octal_after v (suc n) (b ∷ s)
+    go None e f = octal-none v (length t) b t e ∙ sym (octal-none v n b s e)
+    go (Some d) e f = octal-some v (length t) b t d e ∙ ap one_more (f d) ∙ sym (octal-some v n b s d e)
+
+pub octal-start : (v n k : ℕ) (s : List ℕ) → k ≡ min n (length s) → ahead 0 v (take k s) ≡ octal_after v n s
+unfolding ahead
+octal-start v n k s h = rw zero-add (octal-part v n k s h)
+
+-- a run read up to the place i, with the value v so far
+module _ (s : List ℕ) (i v : ℕ) where
+  -- the end
+  pub octal-end : length s ≤ i → ahead i v (drop i s) ≡ record { value = v; count = i }
+  unfolding ahead
+  octal-end h = rw (drop_of_length-le s h, octal_after, add-zero)
+
+  module _ (h : i < length s) where
+    -- another byte at the place
+    pub octal-other : Out (0x30 to 0x37) (get_or s i 0) → ahead i v (drop i s) ≡ record { value = v; count = i }
+    unfolding ahead octal_digit
+    octal-other o = rw (drop-cons s i 0 h, octal_after, outside (0x30 to 0x37) (get_or s i 0) o, add-zero)
+
+    -- a digit at the place
+    pub octal-digit : 0x30 ≤ get_or s i 0 → get_or s i 0 ≤ 0x37 → (w : ℕ) → w ≡ v * 8 + (get_or s i 0 - 0x30)
+        → ahead (i + 1) w (drop (i + 1) s) ≡ ahead i v (drop i s)
+    unfolding ahead octal_digit
+    octal-digit l k w e =
+        let t : List ℕ = drop (suc i) s in
+        let n : suc i + (octal_after w (length t) t).count ≡ i + suc (octal_after w (length t) t).count = omega arith in
+        rw (add-one, drop-cons s i 0 h, octal_after, inside (0x30 to 0x37) (get_or s i 0) (l, k), ← e, n)
+
+pub ruleset octals = (octal-start, octal-end, octal-other, octal-digit, octal_grows, length-take)
 
 -- a run of at most three: its value is below 512, and 0 if there is no digit
 pub octal_three : (s : List ℕ)

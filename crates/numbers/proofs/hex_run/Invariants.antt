@@ -1,12 +1,9 @@
-use mathlib.Core.Path.{◌≡◌}
-use Prim.Native.Nat.{◌-◌, ◌^◌, ◌≤◌, ◌<◌}
-use lib.ListN.{drop}
-use Rattle.spec.specs.Digits.{hex_run, hex_after}
+-- The rest of the run, read on from the value so far, gives what the whole run gives.
+use Rattle.std.proofs.Common.{◌≡◌, ◌^◌, ◌<◌, drop}
+use Rattle.spec.specs.Digits.{hex_run}
+use Rattle.numbers.proofs.Numbers.{all_hex}
 use Rattle.numbers.proofs.hex_run.Given as goal
 
-abbrev pub invariant-loop-i : goal.invariant-loop-i
-invariant-loop-i l =
-    (l.i ≤ l.count) × (l.value < 16 ^ l.i) × (hex_after l.value (l.count - l.i) (drop l.i l.text) ≡ hex_run l.count l.text)
-
-abbrev pub decreases-loop-i : goal.decreases-loop-i
-decreases-loop-i l = l.count - l.i
+abbrev pub invariant-loop-b : goal.invariant-loop-b
+invariant-loop-b l =
+    (l.value < 16 ^ l.b-index) × (all_hex l.value (drop l.b-index l.b-items) ≡ hex_run l.count l.text)
