@@ -20,13 +20,12 @@ use Rattle.laws.specs.Xor.{xor_cancel, xor_block_of}
 use Rattle.laws.specs.First.{from_le, least}
 use Rattle.laws.specs.Placed.{grows, taken_refused, choose-least}
 use Rattle.laws.specs.MarkLaws.{marked, mark}
-use Rattle.slots.specs.Marks.{mark_all, Bounds, open_on, start_on}
-use Rattle.slots.proofs.Place.{slot_on, first-get, from_top, chosen, slot-past, marks_then}
+use Rattle.slots.specs.Marks.{slot_on, mark_all, Bounds, open_on, start_on}
+use Rattle.slots.proofs.Place.{first-get, from_top, chosen, slot-past, marks_then}
 use Rattle.slots.proofs.Find.{bit-of_ones}
 use Rattle.slots.proofs.Starts.{start-cases, start-in}
 use Rattle.slots.specs.Going.{MarksOk, CursorsOk, FrontOk, Going, Sought, Marked, PlacedPast, MarkedOr, PlacedOr}
-use Rattle.slots.specs.declared.Placed.{Placed}
-use Rattle.slots.specs.declared.Placed.TheVariants.{At, Full}
+use Rattle.std.specs.Prelude.{Option, Some, None}
 
 module _ (L : List ℕ → List ℕ) where
   -- ---- what was refused stays refused
@@ -119,16 +118,16 @@ module _ (L : List ℕ → List ℕ) where
       slot-now : s ≡ slot
       slot-now = is ∙ ap (slot_on U B start end) el
 
-      pub sought-past : end * 64 ≤ s → PlacedPast L xs p end Full
+      pub sought-past : end * 64 ≤ s → PlacedPast L xs p end None
       sought-past h = record { answer = refl; past = past_end (subst (λ (z : ℕ). end * 64 ≤ z) slot-now h) }
 
       pub sought-at : (b : ℕ) (U' B' : List ℕ) → s < end * 64 → b ≡ bit_xor s (get_or ls 0 0) → U' ≡ mark_all b U ls → B' ≡ mark B b
-          → Marked L xs p end U' B' (At b)
+          → Marked L xs p end U' B' (Some b)
       sought-at b U' B' h eb eu em =
           let lt = subst (λ (z : ℕ). z < end * 64) slot-now h in
           let e : b ≡ bit_xor slot (get_or (L p) 0 0) = eb ∙ ap₂ (λ (x : ℕ) (k : List ℕ). bit_xor x (get_or k 0 0)) slot-now el in
           record {
-            answer = ap At (e ∙ at-choice lt);
+            answer = ap Some (e ∙ at-choice lt);
             marks = subst (λ (X : List ℕ). MarksOk L (put L xs p) X B' end) (sym (eu ∙ ap (mark_all b U) el))
                 (subst (λ (Y : List ℕ). MarksOk L (put L xs p) (mark_all b U (L p)) Y end) (sym em) (marks-more b lt e));
           }
@@ -188,18 +187,16 @@ module _ (L : List ℕ → List ℕ) where
       }
 
   module _ (xs : List Put) (p : List ℕ) (end : ℕ) (U' B' C' : List ℕ) where
-    pub stands-full : (r : Placed) → MarkedOr L xs p end U' B' r → r ≡ Full → PlacedOr L xs p end U' B' C' Full
-    stands-full r (inl M) i =
-        let no : Full ≡ At (choose L xs (L p)) = sym i ∙ M.answer in let z : ◌≡◌ {A = ℕ} 0 1 = cc in absurd (omega arith)
-    stands-full r (inr P) i = inr (record { answer = refl; past = P.past })
+    pub stands_none : (r : Option ℕ) → MarkedOr L xs p end U' B' r → r ≡ None → PlacedOr L xs p end U' B' C' None
+    stands_none r (inl M) i = let no : None ≡ Some (choose L xs (L p)) = sym i ∙ M.answer in cc
+    stands_none r (inr P) i = inr (record { answer = refl; past = P.past })
 
-    pub stands_at : (r : Placed) (b : ℕ) → MarkedOr L xs p end U' B' r → r ≡ At b
-        → (b ≡ choose L xs (L p) → CursorsOk L (put L xs p) C') → PlacedOr L xs p end U' B' C' (At b)
+    pub stands_at : (r : Option ℕ) (b : ℕ) → MarkedOr L xs p end U' B' r → r ≡ Some b
+        → (b ≡ choose L xs (L p) → CursorsOk L (put L xs p) C') → PlacedOr L xs p end U' B' C' (Some b)
     stands_at r b (inl M) i K =
-        let is : At b ≡ At (choose L xs (L p)) = sym i ∙ M.answer in
+        let is : Some b ≡ Some (choose L xs (L p)) = sym i ∙ M.answer in
         inl (record { answer = is; marks = M.marks; cursors = K (let f : b ≡ choose L xs (L p) = cc in f) })
-    stands_at r b (inr P) i K =
-        let no : Full ≡ At b = sym P.answer ∙ i in let z : ◌≡◌ {A = ℕ} 0 1 = cc in absurd (omega arith)
+    stands_at r b (inr P) i K = let no : None ≡ Some b = sym P.answer ∙ i in cc
 
   -- the first word that is not full, after a node more
   pub front-then : (xs : List Put) (p : List ℕ) (U B : List ℕ) (from high end b : ℕ) → FrontOk L xs from high end

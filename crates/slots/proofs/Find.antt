@@ -6,8 +6,8 @@ use mathlib.Core.List.{List, [], ◌∷◌}
 use Prim.Native.Nat.{ℕ, zero, suc, ◌+◌, ◌-◌, ◌*◌, ◌/◌, ◌%◌, ◌^◌, ◌≤◌, ◌<◌, max}
 use native.Mathlib.Omega.{arith}
 use lib.Dec.{eqb, ltb}
-use lib.ListN.{length, get_or, take, drop, length-set, drop_of_length-le}
-use lib.Seq.{take-suc, take_all, drop-cons}
+use lib.ListN.{length, get_or, take, drop, length-set, length-drop, drop_of_length-le}
+use lib.Seq.{take-suc, take_all, drop-cons, get_or-drop}
 use lib.Bits.{bit_xor, bit_or, xor_shr, xor_mod, xor_comm}
 use lib.Count.{count_trailing_zeros, trailing_of_zero}
 use borrow.Author.Tests.{eq-eqb, ne_eqb, ltb-true, ltb-false}
@@ -123,6 +123,22 @@ module _ (used : List ℕ) (l1 : ℕ) (ls : List ℕ) (i : ℕ) where
         (e j hj)
         ∙ or_comm (clash_at used l1 ls (i * 64 + j)) (marked bases (bit_xor (i * 64 + j) l1))
         ∙ ap (λ (z : ℕ). marked bases (bit_xor (i * 64 + j) z) || clash_at used z ls (i * 64 + j)) is
+
+-- ---- the labels after the first
+
+rest-whole : (ls : List ℕ) → take (length ls - 1) (drop 1 ls) ≡ drop 1 ls
+rest-whole ls = take_all (length ls - 1) (drop 1 ls) (omega (arith, length-drop 1 ls))
+
+pub rest_at : (ls : List ℕ) (k : ℕ) → get_or (take (length ls - 1) (drop 1 ls)) k 0 ≡ get_or ls (k + 1) 0
+rest_at ls k =
+    let q : 1 + k ≡ k + 1 = omega arith in
+    ap (λ (l : List ℕ). get_or l k 0) (rest-whole ls) ∙ get_or-drop 1 ls k 0 ∙ ap (λ (n : ℕ). get_or ls n 0) q
+
+pub rest_in : (ls : List ℕ) (k : ℕ) → k < length (take (length ls - 1) (drop 1 ls)) → k + 1 < length ls
+rest_in ls k h = omega (arith, ap length (rest-whole ls), length-drop 1 ls)
+
+pub rest_end : (ls : List ℕ) (k : ℕ) → length (take (length ls - 1) (drop 1 ls)) ≤ k → length ls ≤ k + 1
+rest_end ls k h = omega (arith, ap length (rest-whole ls), length-drop 1 ls)
 
 -- ---- the search
 

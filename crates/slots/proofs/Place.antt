@@ -20,13 +20,8 @@ use Rattle.laws.specs.First.{first_passes, least, from_le, first-is}
 use Rattle.laws.specs.Placed.{above}
 use Rattle.laws.specs.MarkLaws.{marked, mark, mark-is}
 use Rattle.slots.specs.Going.{MarksOk}
-use Rattle.slots.specs.Marks.{bad_at, clash_at, mark_all}
+use Rattle.slots.specs.Marks.{bad_at, clash_at, slot_on, mark_all}
 use Rattle.slots.proofs.Find.{length-mark, slot_in}
-
--- the smallest slot that is not refused, from word `from` up to word `end`
-unfoldable pub slot_on : List ℕ → List ℕ → ℕ → ℕ → List ℕ → ℕ
-unfolding first_from bad_at
-slot_on U B from end ls = first_from (λ s. not (bad_at U B ls s)) ((end - from) * 64) (from * 64)
 
 -- ---- the marks stand for what is placed
 

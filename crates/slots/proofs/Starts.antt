@@ -10,16 +10,8 @@ use lib.ListN.{length, get_or}
 use borrow.Author.Tests.{eq-eqb, ne_eqb, eqb-true, eqb-false, le-leb, lt-leb, lt-ltb, le-ltb, leb-true, ltb-true}
 use Rattle.laws.specs.Tests.{yes_case, no_case}
 use Rattle.laws.specs.First.{first-is}
-use Rattle.slots.specs.Marks.{Below, open_on, start_on}
+use Rattle.slots.specs.Marks.{open_on, start_on}
 use Rattle.slots.proofs.Find.{miss}
-use Rattle.slots.specs.declared.Placed.{Placed}
-use Rattle.slots.specs.declared.Placed.TheVariants.{At, Full}
-
--- ---- placing
-
-pub below-le : (p : Placed) (a b : ℕ) → Below a p → a ≤ b → Below b p
-below-le (At x) a b h k = omega arith
-below-le Full a b h k = tt
 
 -- ---- where a search begins
 

@@ -1,14 +1,12 @@
 -- What the marks, the cursors and the first word that is not full have to do with the nodes placed so far; what placing one more answers.
 -- Assumes nothing.
-use Rattle.std.specs.Prelude.{◌≡◌, ◌⊎◌, true, false, List, [], ◌∷◌, ℕ, ◌+◌, ◌*◌, ◌/◌, ◌≤◌, ◌<◌, max, get_or}
+use Rattle.std.specs.Prelude.{◌≡◌, ◌⊎◌, true, false, List, [], ◌∷◌, ℕ, ◌+◌, ◌*◌, ◌/◌, ◌≤◌, ◌<◌, max, get_or, Option, Some, None}
 use Rattle.std.specs.Int.Bits.{bit_xor}
 use Rattle.spec.specs.Layout.{Put, used, taken, free, words, top, first, choose, put}
 use Rattle.laws.specs.Nodes.{ByteLabels}
 use Rattle.laws.specs.MarkLaws.{marked}
 use Rattle.slots.specs.Marks.{open_on}
 use Rattle.slots.specs.declared.Front.{Front}
-use Rattle.slots.specs.declared.Placed.{Placed}
-use Rattle.slots.specs.declared.Placed.TheVariants.{At, Full}
 
 -- the marks of the first 64 end slots stand for the nodes xs that are placed
 pub record MarksOk (L : List ℕ → List ℕ) (xs : List Put) (U B : List ℕ) (end : ℕ) : Type 0 where
@@ -42,33 +40,37 @@ module _ (L : List ℕ → List ℕ) where
     pub before : (s : ℕ) → 256 ≤ s → s < start * 64 → free L xs (L p) (bit_xor s (first (L p))) ≡ false
 
   -- node p is placed; the marks stand for that
-  pub record Marked (xs : List Put) (p : List ℕ) (end : ℕ) (U B : List ℕ) (r : Placed) : Type 0 where
-    pub answer : r ≡ At (choose L xs (L p))
+  pub record Marked (xs : List Put) (p : List ℕ) (end : ℕ) (U B : List ℕ) (r : Option ℕ) : Type 0 where
+    pub answer : r ≡ Some (choose L xs (L p))
     pub marks : MarksOk L (put L xs p) U B end
 
   -- node p is placed; the marks and cursors stand for that
-  pub record PlacedAt (xs : List Put) (p : List ℕ) (end : ℕ) (U B C : List ℕ) (r : Placed) : Type 0 where
-    pub answer : r ≡ At (choose L xs (L p))
+  pub record PlacedAt (xs : List Put) (p : List ℕ) (end : ℕ) (U B C : List ℕ) (r : Option ℕ) : Type 0 where
+    pub answer : r ≡ Some (choose L xs (L p))
     pub marks : MarksOk L (put L xs p) U B end
     pub cursors : CursorsOk (put L xs p) C
 
   -- the slot that node p takes lies past the capacity
-  pub record PlacedPast (xs : List Put) (p : List ℕ) (end : ℕ) (r : Placed) : Type 0 where
-    pub answer : r ≡ Full
+  pub record PlacedPast (xs : List Put) (p : List ℕ) (end : ℕ) (r : Option ℕ) : Type 0 where
+    pub answer : r ≡ None
     pub past : end * 64 < words (put L xs p)
 
-  abbrev pub MarkedOr : List Put → List ℕ → ℕ → List ℕ → List ℕ → Placed → Type 0
+  abbrev pub MarkedOr : List Put → List ℕ → ℕ → List ℕ → List ℕ → Option ℕ → Type 0
   MarkedOr xs p end U B r = Marked xs p end U B r ⊎ PlacedPast xs p end r
 
-  abbrev pub PlacedOr : List Put → List ℕ → ℕ → List ℕ → List ℕ → List ℕ → Placed → Type 0
+  abbrev pub PlacedOr : List Put → List ℕ → ℕ → List ℕ → List ℕ → List ℕ → Option ℕ → Type 0
   PlacedOr xs p end U B C r = PlacedAt xs p end U B C r ⊎ PlacedPast xs p end r
 
 -- ---- how far the placing is
 
--- where the placing is after a node
-abbrev pub passed_on : List ℕ → Front → ℕ → Placed → Front
-passed_on U at end (At b) = record { from = open_on U at.from end; high = max (b / 256) at.high; full = false }
-passed_on U at end Full = record { from = at.from; high = at.high; full = true }
+-- where the placing is after a node with base b
+abbrev pub onward : List ℕ → Front → ℕ → ℕ → Front
+onward U at end b = record { from = open_on U at.from end; high = max (b / 256) at.high }
+
+-- where the placing is after a node, if it has a base
+abbrev pub passed_on : List ℕ → Front → ℕ → Option ℕ → Option Front
+passed_on U at end (Some b) = Some (onward U at end b)
+passed_on U at end None = None
 
 -- the placing is within the capacity
 pub record Within (at : Front) (end : ℕ) : Type 0 where

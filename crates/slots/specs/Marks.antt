@@ -1,13 +1,11 @@
 -- Words of marks: what the search tests, 64 slots at once. Assumes nothing.
 use Rattle.std.specs.Prelude.{◌≡◌, Bool, not, ◌||◌, cond, List, [], ◌∷◌, ℕ, ◌+◌, ◌-◌, ◌*◌, ◌%◌, ◌^◌, ◌≤◌, ◌<◌}
-use Rattle.std.specs.Prelude.{length, get_or, eqb, leb, ltb}
+use Rattle.std.specs.Prelude.{length, get_or, eqb, leb, ltb, Option, MatchOption}
 use Rattle.std.specs.Int.Bits.{bit_xor}
 use Rattle.spec.specs.Lists.{any}
 use Rattle.spec.specs.Layout.{first_from}
 use Rattle.laws.specs.Perm.{bit}
 use Rattle.laws.specs.MarkLaws.{marked, mark}
-use Rattle.slots.specs.declared.Placed.{Placed}
-use Rattle.slots.specs.declared.Placed.TheVariants.{At, Full}
 
 -- bit j of w is the mark of slot (64 i + j) XOR d
 abbrev pub MovedWord : List ℕ → ℕ → ℕ → ℕ → Type 0
@@ -27,16 +25,22 @@ bad_at used bases ls s = marked bases (bit_xor s (get_or ls 0 0)) || clash_at us
 abbrev pub BadWord : List ℕ → List ℕ → List ℕ → ℕ → ℕ → Type 0
 BadWord used bases ls i r = (j : ℕ) → j < 64 → eqb (bit r j) 1 ≡ bad_at used bases ls (i * 64 + j)
 
+-- the smallest slot that is not refused, from word `from` up to word `end`; 64 times end if all are
+unfoldable pub slot_on : List ℕ → List ℕ → ℕ → ℕ → List ℕ → ℕ
+unfolding first_from bad_at
+slot_on used bases from end ls = first_from (λ s. not (bad_at used bases ls s)) ((end - from) * 64) (from * 64)
+
+-- that slot, or none
+abbrev pub FirstFree : List ℕ → List ℕ → List ℕ → ℕ → ℕ → Option ℕ → Type 0
+FirstFree used bases ls from end r =
+    let s = slot_on used bases from end ls in
+    MatchOption r (s ≡ end * 64) (λ found. (found ≡ s) × (s < end * 64))
+
 -- the marks with the slots of a node's children
 unfoldable pub mark_all : ℕ → List ℕ → List ℕ → List ℕ
 unfolding mark
 mark_all base M [] = M
 mark_all base M (l ∷ ls) = mark_all base (mark M (bit_xor base l)) ls
-
--- a base is below n
-abbrev pub Below : ℕ → Placed → Type 0
-Below n (At b) = b < n
-Below n Full = Unit {0}
 
 -- the first word from `from` on that is not full, end if all below that are
 unfoldable pub open_on : List ℕ → ℕ → ℕ → ℕ

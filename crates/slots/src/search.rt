@@ -1,15 +1,13 @@
 // Marks of slots and bases, 64 to a word, and the search for a node's slot by words of 64 candidates.
-ghost use Rattle.std.specs.Prelude.{◌≡◌, not, ◌||◌, List, ℕ, ◌+◌, ◌-◌, ◌*◌, ◌/◌, ◌^◌, ◌<◌, ◌≤◌, eqb, length};
+ghost use Rattle.std.specs.Prelude.{◌≡◌, not, ◌||◌, List, ℕ, ◌+◌, ◌-◌, ◌*◌, ◌/◌, ◌^◌, ◌<◌, ◌≤◌, eqb, length, IfSome};
 ghost use Rattle.std.specs.Int.Bits.{bit_xor};
-ghost use Rattle.spec.specs.Layout.{Put, first_from, choose, put};
+ghost use Rattle.spec.specs.Layout.{Put, choose, put};
 ghost use Rattle.laws.specs.Nodes.{ByteLabels};
 ghost use Rattle.laws.specs.Perm.{bit, maybe};
 ghost use Rattle.laws.specs.MarkLaws.{marked, mark};
-ghost use Rattle.slots.specs.Marks.{MovedWord, BadWord, bad_at, mark_all, Bounds};
-ghost use Rattle.slots.specs.Marks.{Below, start_on, open_on};
+ghost use Rattle.slots.specs.Marks.{MovedWord, BadWord, FirstFree, mark_all, Bounds};
+ghost use Rattle.slots.specs.Marks.{start_on, open_on};
 ghost use Rattle.slots.specs.Going.{CursorsOk, Going, Sought, MarkedOr, PlacedOr};
-
-use crate::Placed;
 
 // ---- the permutation
 
@@ -44,8 +42,7 @@ fn moved(marks: &[u64], i: usize, d: usize) -> u64
     requires { bit_xor i (d / 64) < length marks.now }
     ensures { MovedWord marks.now i d result }
 {
-    let at = i ^ (d / 64);
-    xor_perm(marks[at], d % 64)
+    xor_perm(marks[i ^ (d / 64)], d % 64)
 }
 
 // Bit j says that slot 64 i + j is refused for a node of these labels: a child's slot is taken, or its base is used.
@@ -53,44 +50,32 @@ fn bad_word(used: &[u64], bases: &[u64], i: usize, labels: &[u8]) -> u64
     requires { (i / 4 * 4 + 4 ≤ length used.now) × (i / 4 * 4 + 4 ≤ length bases.now) × (1 ≤ length labels.now) }
     ensures { BadWord used.now bases.now labels.now i result }
 {
-    let first = cells::u8_to_usize(labels[0]);
+    let first = usize::from(labels[0]);
     let mut bad = used[i];
-    let mut k: usize = 1;
-    while k < labels.len() {
-        if bad == 0xffffffffffffffff {
+    for &label in &labels[1..] {
+        if bad == u64::MAX {
             return bad;
         }
-        bad = bad | moved(used, i, first ^ cells::u8_to_usize(labels[k]));
-        k += 1;
+        bad |= moved(used, i, first ^ usize::from(label));
     }
     bad | moved(bases, i, first)
 }
 
-// The smallest slot from word from on that is not refused, 64 times end if all below that are.
-fn find_slot(used: &[u64], bases: &[u64], from: usize, end: usize, labels: &[u8]) -> usize
+// The smallest slot from word from up to word end that is not refused.
+fn find_slot(used: &[u64], bases: &[u64], from: usize, end: usize, labels: &[u8]) -> Option<usize>
     requires { Bounds used.now bases.now from end × (1 ≤ length labels.now) }
-    ensures { result ≡ first_from (λ s. not (bad_at used.now bases.now labels.now s))
-        ((end - from) * 64) (from * 64) }
+    ensures { FirstFree used.now bases.now labels.now from end result }
 {
-    let mut i = from;
-    while i < end {
+    for i in from..end {
         let free = !bad_word(used, bases, i, labels);
         if free != 0 {
-            return i * 64 + cells::u32_to_usize(u64::trailing_zeros(free));
+            return Some(i * 64 + free.trailing_zeros() as usize);
         }
-        i += 1;
     }
-    end * 64
+    None
 }
 
 // ---- marks
-
-fn one_bit(k: usize) -> u64
-    requires { k < 64 }
-    ensures { result ≡ 2 ^ k }
-{
-    1u64 << k
-}
 
 // Slot s is marked, and no other.
 fn mark_slot(marks: &mut [u64], s: usize)
@@ -98,8 +83,7 @@ fn mark_slot(marks: &mut [u64], s: usize)
     ensures means { (t : ℕ) → marked marks.new t ≡ (marked marks.old t || eqb t s) }
     ensures same { marks.new ≡ mark marks.old s }
 {
-    let i = s / 64;
-    marks[i] = marks[i] | one_bit(s % 64);
+    marks[s / 64] |= 1 << (s % 64);
 }
 
 // Marks the slots of a node's children.
@@ -107,29 +91,30 @@ fn mark_all(marks: &mut [u64], base: usize, labels: &[u8])
     requires { base / 256 * 4 + 4 ≤ length marks.old }
     ensures { marks.new ≡ mark_all base marks.old labels.now }
 {
-    let mut k: usize = 0;
-    while k < labels.len() {
-        mark_slot(marks, base ^ cells::u8_to_usize(labels[k]));
-        k += 1;
+    for &label in labels {
+        mark_slot(marks, base ^ usize::from(label));
     }
 }
 
 // Places a node with these labels at the smallest slot from word start on: the smallest of all, where what lies before is refused.
-fn place_one(used: &mut [u64], bases: &mut [u64], start: usize, end: usize, labels: &[u8]) -> Placed
+pub(crate) fn place_one(
+    used: &mut [u64],
+    bases: &mut [u64],
+    start: usize,
+    end: usize,
+    labels: &[u8],
+) -> Option<usize>
     requires { Bounds used.old bases.old start end × (1 ≤ length labels.now) }
     ensures stands { (L : List ℕ → List ℕ) (xs : List Put) (p : List ℕ) → labels.now ≡ L p
         → Sought L xs p used.old bases.old start end
         → MarkedOr L xs p end used.new bases.new result }
-    ensures small { Below (end * 64) result }
+    ensures small { IfSome result (λ b. b < end * 64) }
 {
-    let s = find_slot(used, bases, start, end, labels);
-    if end * 64 <= s {
-        return Placed::Full;
-    }
-    let base = s ^ cells::u8_to_usize(labels[0]);
+    let slot = find_slot(used, bases, start, end, labels)?;
+    let base = slot ^ usize::from(labels[0]);
     mark_slot(bases, base);
     mark_all(used, base, labels);
-    Placed::At(base)
+    Some(base)
 }
 
 // ---- where a search begins
@@ -139,67 +124,39 @@ pub fn open_from(used: &[u64], from: usize, end: usize) -> usize
     requires { (from ≤ end) × (end ≤ length used.now) }
     ensures { result ≡ open_on used.now from end }
 {
-    let mut i = from;
-    while i < end {
-        if used[i] != 0xffffffffffffffff {
+    for i in from..end {
+        if used[i] != u64::MAX {
             return i;
         }
-        i += 1;
     }
     end
 }
 
 // The word at which the search for a node of these labels begins. Words below from are full; for a node of one label the words below its
 // label's cursor have been searched, and what was refused stays refused.
-fn start_of(cursors: &[u32], labels: &[u8], from: usize, end: usize) -> usize
+pub(crate) fn start_of(cursors: &[u32], labels: &[u8], from: usize, end: usize) -> usize
     requires { (256 ≤ length cursors.now) × (1 ≤ length labels.now) }
     ensures { result ≡ start_on cursors.now labels.now from end }
 {
-    if labels.len() != 1 {
+    let [label] = labels else {
         return from;
+    };
+    let cursor = cursors[usize::from(*label)] as usize;
+    if from < cursor && cursor <= end {
+        return cursor;
     }
-    let cursor = cells::u32_to_usize(cursors[cells::u8_to_usize(labels[0])]);
-    if cursor <= from {
-        return from;
-    }
-    if end < cursor {
-        return from;
-    }
-    cursor
+    from
 }
 
 // A node was placed at base. If it has one label, its label's cursor is the word of its slot.
-fn remember(cursors: &mut [u32], labels: &[u8], base: usize)
+pub(crate) fn remember(cursors: &mut [u32], labels: &[u8], base: usize)
     requires { (256 ≤ length cursors.old) × (1 ≤ length labels.now) × (base < 2 ^ 32) }
     ensures { (L : List ℕ → List ℕ) (xs : List Put) (p : List ℕ) → labels.now ≡ L p → ByteLabels L
         → base ≡ choose L xs (L p) → CursorsOk L xs cursors.old → CursorsOk L (put L xs p) cursors.new }
 {
-    if labels.len() != 1 {
+    let [label] = labels else {
         return;
-    }
-    let first = cells::u8_to_usize(labels[0]);
-    cursors[first] = cells::usize_to_u32((base ^ first) / 64);
-}
-
-// Places a node with these labels at the smallest slot of all: none before the start of its search is free.
-pub fn place_labels(
-    used: &mut [u64],
-    bases: &mut [u64],
-    cursors: &mut [u32],
-    from: usize,
-    end: usize,
-    labels: &[u8],
-) -> Placed
-    requires { Bounds used.old bases.old from end × (256 ≤ length cursors.old) × (1 ≤ length labels.now) }
-    ensures stands { (L : List ℕ → List ℕ) (xs : List Put) (p : List ℕ) (high : ℕ) → labels.now ≡ L p
-        → Going L xs used.old bases.old cursors.old from high end
-        → PlacedOr L xs p end used.new bases.new cursors.new result }
-    ensures small { Below (end * 64) result }
-{
-    let start = start_of(cursors, labels, from, end);
-    let Placed::At(base) = place_one(used, bases, start, end, labels) else {
-        return Placed::Full;
     };
-    remember(cursors, labels, base);
-    Placed::At(base)
+    let label = usize::from(*label);
+    cursors[label] = ((base ^ label) / 64) as u32;
 }

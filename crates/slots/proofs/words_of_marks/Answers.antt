@@ -1,8 +1,7 @@
--- `slots::words_of_marks` meets its contract. Assumes nothing.
+use Rattle.std.proofs.Common.{arith}
 use Rattle.spec.specs.Load.{table_room}
-use borrow.Author.Rules.{rules}
 use Rattle.slots.proofs.words_of_marks.Goals as goal
 
 pub returns : goal.returns
 unfolding table_room
-returns c = search rules
+returns c = omega arith

@@ -1,54 +1,38 @@
--- `slots::search::bad_word` meets its contract. The loop: bit j of bad says that the slot of a label before k is taken. Assumes
-use mathlib.Core.Path.{subst}
-use Prim.Native.Nat.{ℕ, ◌+◌, ◌*◌, ◌/◌}
-use native.Mathlib.Omega.{arith}
+-- The first label falls on the slot itself; each label more refuses more slots; the bases come last.
+use Rattle.std.proofs.Common.{◌≡◌, ℕ, ◌+◌, ◌*◌, ◌/◌, get_or, subst, ◌∙◌, arith}
 use lib.Bits.{bit_xor, xor_lt}
 use Rattle.slots.specs.Marks.{MovedWord}
-use Rattle.slots.proofs.Find.{in_four, clash-first, clash-more, clash-all, clash-base}
+use Rattle.slots.proofs.Find.{in_four, clash-first, clash-more, clash-all, clash-base, rest_at, rest_in, rest_end}
 use Rattle.slots.proofs.search.bad_word.Goals as goal
 
-pub loop-k-init : goal.loop-k-init
-loop-k-init c = (
-  c.requires.2,
-  clash-first _ _ c.args.labels.now _ c.u8_to_usize-first.ensures
-      c.requires.2,
-)
+pub loop-label-init : goal.loop-label-init
+loop-label-init c = clash-first _ _ c.args.labels.now _ c.from-first.ensures c.requires.2
 
 pub returns-then-bad : goal.returns-then-bad
-returns-then-bad c = clash-all _ _ c.args.labels.now _ _
-    c.u8_to_usize-first.ensures c.loop-k.k _ c.if-bad.true
-    c.loop-k.invariant.1
+returns-then-bad c =
+    clash-all _ _ c.args.labels.now _ _ c.from-first.ensures (c.loop-label.label-index + 1) _ c.if-bad.true c.loop-label.invariant
 
 pub moved-bad-requires : goal.moved-bad-requires
 moved-bad-requires c =
-    let e = c.u8_to_usize-first.ensures in
-    let f = c.u8_to_usize.ensures in
     let a = c.type_inv.labels 0 in
-    let b = c.type_inv.labels c.loop-k.k in
-    in_four _ _ _ (xor_lt 8 c.u8_to_usize-first.result c.u8_to_usize.result (omega arith)
-    (omega arith)) c.requires.0
+    in_four _ _ _ (xor_lt 8 c.from-first.result c.from.result (omega arith) (omega arith)) c.requires.0
 
-pub loop-k-preserved : goal.loop-k-preserved
-loop-k-preserved c = (
-  omega arith,
-  clash-more _ _ _ _ _ _ _ c.loop-k-test.true c.loop-k.invariant.1
-      (subst (λ (z : ℕ). MovedWord
-      c.args.used.now
-      c.args.i
-      (bit_xor c.u8_to_usize-first.result z) c.moved-bad.result)
-      c.u8_to_usize.ensures c.moved-bad.ensures),
-)
+pub loop-label-preserved : goal.loop-label-preserved
+loop-label-preserved c =
+    let ls = c.args.labels.now in
+    let k = c.loop-label.label-index in
+    let here : c.from.result ≡ get_or ls (k + 1) 0 = c.from.ensures ∙ rest_at ls k in
+    clash-more _ _ ls _ (k + 1) _ _ (rest_in ls k c.loop-label-test.true) c.loop-label.invariant
+    (subst (λ (z : ℕ). MovedWord c.args.used.now c.args.i (bit_xor c.from-first.result z) c.moved-bad.result) here c.moved-bad.ensures)
 
 pub moved-requires : goal.moved-requires
 moved-requires c =
-    let e = c.u8_to_usize-first.ensures in
     let a = c.type_inv.labels 0 in
-    let s = c in
-    let u = s.requires.0 in
-    let b = s.requires.1 in
-    let q = in_four s.args.i c.u8_to_usize-first.result (s.args.i / 4 * 4 + 4) (omega arith) (omega arith) in
+    let q = in_four c.args.i c.from-first.result (c.args.i / 4 * 4 + 4) (omega arith) (omega arith) in
     omega arith
 
 pub returns : goal.returns
-returns c = clash-base _ _ _ _ _ c.u8_to_usize-first.ensures _ _ _ c.loop-k-test.false
-    c.loop-k.invariant.1 c.moved.ensures
+returns c =
+    let ls = c.args.labels.now in
+    let k = c.loop-label.label-index in
+    clash-base _ _ ls _ _ c.from-first.ensures (k + 1) _ _ (rest_end ls k c.loop-label-test.false) c.loop-label.invariant c.moved.ensures

@@ -1,10 +1,7 @@
-use Prim.Native.Nat.{◌-◌, ◌≤◌}
-use lib.ListN.{length, take}
+-- The loop: bit j of bad says that the slot of a label before this one is taken.
+use Rattle.std.proofs.Common.{◌+◌, take}
 use Rattle.slots.proofs.Find.{ClashWord}
 use Rattle.slots.proofs.search.bad_word.Given as goal
 
-abbrev pub invariant-loop-k : goal.invariant-loop-k
-invariant-loop-k l = (l.k ≤ length l.labels) × ClashWord l.used l.first (take l.k l.labels) l.i l.bad
-
-abbrev pub decreases-loop-k : goal.decreases-loop-k
-decreases-loop-k l = length l.labels - l.k
+abbrev pub invariant-loop-label : goal.invariant-loop-label
+invariant-loop-label l = ClashWord l.used l.first (take (l.label-index + 1) l.labels) l.i l.bad

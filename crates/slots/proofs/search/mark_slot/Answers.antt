@@ -1,20 +1,14 @@
--- `slots::search::mark_slot` meets its contract. Assumes nothing.
-use mathlib.Core.Path.{◌≡◌, ap, ◌∙◌}
-use mathlib.Core.List.{List}
-use Prim.Native.Nat.{ℕ, ◌/◌}
-use lib.ListN.{get_or, set}
-use lib.Bits.{bit_or}
+-- What is stored is one mark more.
+use Rattle.std.proofs.Common.{◌≡◌, ℕ, ◌*◌, ◌/◌, ◌%◌, ◌^◌, List, get_or, set, ap, ◌∙◌, arith, bit_or}
 use Rattle.laws.specs.MarkLaws.{marked, mark, mark-is}
+use Rattle.slots.proofs.Bitwise.{one_shl}
 use Rattle.slots.proofs.search.mark_slot.Goals as goal
 
--- what is stored is one mark more
 pub returns : goal.returns
 unfolding mark
 returns c =
-    let a = c in
-    let more : set a.args.marks.now (a.args.s / 64) (bit_or (get_or a.args.marks.now (a.args.s / 64) 0) c.one_bit.result)
-    ≡ mark a.args.marks.now a.args.s = cc in
-    record {
-      means = λ t. ap (λ (M : List ℕ). marked M t) more ∙ mark-is a.args.marks.now a.args.s t a.requires;
-      same = more;
-    }
+    let m = c.args.marks.now in
+    let s = c.args.s in
+    let more : set m (s / 64) (bit_or (get_or m (s / 64) 0) (1 * 2 ^ (s % 64) % 2 ^ 64)) ≡ mark m s =
+    ap (λ (z : ℕ). set m (s / 64) (bit_or (get_or m (s / 64) 0) z)) (one_shl (s % 64) (omega arith)) in
+    record { means = λ t. ap (λ (M : List ℕ). marked M t) more ∙ mark-is m s t c.requires; same = more }
