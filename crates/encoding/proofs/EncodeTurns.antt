@@ -14,8 +14,9 @@ use Rattle.spec.specs.Lists.{over}
 use Rattle.spec.specs.Memory.{Memory, too_short}
 use Rattle.spec.specs.Match.{nothing, found, match_on}
 use Rattle.spec.specs.Encode.{EncodeEnd, complete, unmatched, full, Encoding, encoded, encode_at, encoding, encode_answer, encode_on}
-use Rattle.encoding.specs.declared.Encoded.{Encoded}
-use Rattle.encoding.specs.declared.Encoded.TheVariants.{ShortMemory}
+use Rattle.std.specs.Prelude.{Result, Err}
+use Rattle.encoding.specs.declared.EncodeError.{EncodeError}
+use Rattle.encoding.specs.declared.EncodeError.TheVariants.{ShortMemory}
 use Rattle.encoding.specs.Answers.{answer_of, Answered}
 use Rattle.matching.proofs.WalkBounds.{match_within}
 
@@ -152,7 +153,7 @@ module _ (m : Memory) (src lent out : List ℕ) (i n : ℕ) (st : Stands m src l
 
   -- the answer and the cells of an encoding that ends here
   pub answers : too_short m ≡ false → (e : EncodeEnd) → encode_at m (length lent - n) i 0 (drop i src) ≡ ended_with e
-      → (r : Encoded) → answer_of r ≡ encode_answer n e → Answered (encode_on m (length lent) src) r lent out
+      → (r : Result ℕ EncodeError) → answer_of r ≡ encode_answer n e → Answered (encode_on m (length lent) src) r lent out
   unfolding encode_on
   answers t e h r a =
       rw (t, encode_on, ends-here e h)
@@ -186,6 +187,6 @@ long_enough m t = (
     or-false-r false y e = e
 
 -- number 1 leaves everything as it was
-pub refuses : (m : Memory) (src lent : List ℕ) → too_short m ≡ true → Answered (encode_on m (length lent) src) ShortMemory lent lent
+pub refuses : (m : Memory) (src lent : List ℕ) → too_short m ≡ true → Answered (encode_on m (length lent) src) (Err ShortMemory) lent lent
 unfolding encode_on
 refuses m src lent t = rw (t, encode_on) (record { answer = refl; cells = refl })

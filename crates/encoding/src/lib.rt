@@ -2,18 +2,15 @@
 #![tactic(auto)]
 
 ghost use Rattle.std.specs.Prelude.{length};
-ghost use Rattle.spec.specs.Memory.{memory};
 ghost use Rattle.spec.specs.Encode.{encode_on};
+ghost use Rattle.memory.specs.Lent.{cells_of};
 ghost use Rattle.encoding.specs.Answers.{Answered};
 
-use matching::Match;
+use memory::Memory;
 
-// What an encoding answers: the input's end, number 1, number 22 and number 23.
-#[derive(Clone, Copy)]
-pub enum Encoded {
-    Whole {
-        count: usize,
-    },
+/// Why an encoding ends before its input does: number 1, number 22 and number 23, with the count of ids that stand.
+#[derive(Clone, Copy, Debug, PartialEq, Eq)]
+pub enum EncodeError {
     ShortMemory,
     NoToken {
         count: usize,
@@ -26,44 +23,33 @@ pub enum Encoded {
     },
 }
 
-// The ids of the whole input, written from the output's start.
+/// Writes the ids of the whole input from the output's start, and says how many they are.
 pub fn encode_sequential_bytes(
-    single: &[i32],
-    offsets: &[u32],
-    blob: &[u8],
-    roots: &[u64],
-    table: &[u64],
+    memory: Memory,
     src: &[u8],
     out: &mut [u32],
-) -> Encoded
-    ensures { Answered (encode_on
-        (memory single.now offsets.now blob.now roots.now table.now)
-        (length out.old) src.now) result out.old out.new }
+) -> Result<usize, EncodeError>
+    ensures { Answered (encode_on (cells_of memory.entry) (length out.old) src.now) result out.old out.new }
 {
-    if memory::too_short(single, offsets, roots) {
-        return Encoded::ShortMemory;
+    if memory.too_short() {
+        return Err(EncodeError::ShortMemory);
     }
-    let mut i: usize = 0;
-    let mut n: usize = 0;
-    while i < src.len() {
-        let byte = src[i];
-        let found = matching::match_at(single, roots, table, src, i);
-        let Match::Found { id, len } = found else {
-            return Encoded::NoToken {
-                count: n,
-                offset: i,
-                byte,
-            };
+    let mut offset = 0;
+    let mut count = 0;
+    while offset < src.len() {
+        let Some(found) = matching::match_at(memory, src, offset) else {
+            return Err(EncodeError::NoToken {
+                count,
+                offset,
+                byte: src[offset],
+            });
         };
-        if n >= out.len() {
-            return Encoded::Full {
-                count: n,
-                offset: i,
-            };
+        if count >= out.len() {
+            return Err(EncodeError::Full { count, offset });
         }
-        out[n] = id;
-        n += 1;
-        i += len;
+        out[count] = found.id;
+        count += 1;
+        offset += found.len;
     }
-    Encoded::Whole { count: n }
+    Ok(count)
 }

@@ -7,43 +7,42 @@ use Rattle.encoding.proofs.EncodeTurns.{long_enough, refuses}
 use Rattle.encoding.proofs.encode_sequential_bytes.Goals as goal
 
 pub returns-then-too_short : goal.returns-then-too_short
-returns-then-too_short c = refuses _ _ _ (sym (c.if-too_short.ensures _ _))
+returns-then-too_short c = refuses _ _ _ (sym c.if-too_short.ensures)
 
-pub loop-i-init : goal.loop-i-init
-loop-i-init c = stands_first _ _ _
+pub loop-offset-init : goal.loop-offset-init
+loop-offset-init c = stands_first _ _ _
 
-pub match_at-found-requires : goal.match_at-found-requires
-match_at-found-requires c =
-    let a = c.args in
-    let long = long_enough _ (sym (c.if-too_short.ensures a.blob.now a.table.now)) in
-    (c.loop-i-test.true, long.0, long.1)
+pub match_at-requires : goal.match_at-requires
+match_at-requires c =
+    let long = long_enough _ (sym c.if-too_short.ensures) in
+    (c.loop-offset-test.true, long.0, long.1)
 
 pub returns-in_default : goal.returns-in_default
 returns-in_default c =
-    answers _ _ _ _ _ _ c.loop-i.invariant (sym (c.if-too_short.ensures _ _)) (unmatched _ _)
-    (ends-unmatched _ _ _ c.loop-i-test.true _ (sym (c.in_default.ensures _ _))) _ refl
+    answers _ _ _ _ _ _ c.loop-offset.invariant (sym c.if-too_short.ensures) (unmatched _ _)
+    (ends-unmatched _ _ _ c.loop-offset-test.true _ (sym c.in_default.ensures)) _ refl
 
-pub returns-then-n-out : goal.returns-then-n-out
-returns-then-n-out c =
-    answers _ _ _ _ _ _ c.loop-i.invariant (sym (c.if-too_short.ensures _ _)) (full _)
-    (ends-full _ _ _ c.loop-i-test.true _ _ (sym (c.in-Found.ensures _ _)) _ (omega (arith, c.loop-i.invariant.long))) _ refl
+pub returns-then-count-out : goal.returns-then-count-out
+returns-then-count-out c =
+    answers _ _ _ _ _ _ c.loop-offset.invariant (sym c.if-too_short.ensures) (full _)
+    (ends-full _ _ _ c.loop-offset-test.true _ _ (sym c.in-Some.ensures) _ (omega (arith, c.loop-offset.invariant.long))) _ refl
 
-pub overflow_add-i : goal.overflow_add-i
-overflow_add-i c =
-    let m = moves _ _ _ c.loop-i-test.true _ _ (sym (c.in-Found.ensures c.args.offsets.now c.args.blob.now)) in
+pub overflow_add-offset : goal.overflow_add-offset
+overflow_add-offset c =
+    let m = moves _ _ _ c.loop-offset-test.true _ _ (sym c.in-Some.ensures) in
     omega (arith, m.1)
 
-pub loop-i-smaller : goal.loop-i-smaller
-loop-i-smaller c =
-    let m = moves _ _ _ c.loop-i-test.true _ _ (sym (c.in-Found.ensures c.args.offsets.now c.args.blob.now)) in
+pub loop-offset-smaller : goal.loop-offset-smaller
+loop-offset-smaller c =
+    let m = moves _ _ _ c.loop-offset-test.true _ _ (sym c.in-Some.ensures) in
     omega (arith, m.0, m.1)
 
-pub loop-i-preserved : goal.loop-i-preserved
-loop-i-preserved c =
-    stands-next _ _ _ _ _ _ c.loop-i.invariant c.loop-i-test.true
-    c.if-n-out.false _ _ (sym (c.in-Found.ensures _ _))
+pub loop-offset-preserved : goal.loop-offset-preserved
+loop-offset-preserved c =
+    stands-next _ _ _ _ _ _ c.loop-offset.invariant c.loop-offset-test.true
+    c.if-count-out.false _ _ (sym c.in-Some.ensures)
 
 pub returns : goal.returns
 returns c =
-    answers _ _ _ _ _ _ c.loop-i.invariant (sym (c.if-too_short.ensures _ _)) complete
-    (ends-whole _ _ _ _ c.loop-i-test.false) _ refl
+    answers _ _ _ _ _ _ c.loop-offset.invariant (sym c.if-too_short.ensures) complete
+    (ends-whole _ _ _ _ c.loop-offset-test.false) _ refl

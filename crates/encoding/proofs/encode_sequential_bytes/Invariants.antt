@@ -1,11 +1,10 @@
-use Prim.Native.Nat.{◌-◌}
-use lib.ListN.{length}
-use Rattle.spec.specs.Memory.{memory}
+use Rattle.std.proofs.Common.{◌-◌, length}
+use Rattle.memory.specs.Lent.{cells_of}
 use Rattle.encoding.proofs.EncodeTurns.{Stands}
 use Rattle.encoding.proofs.encode_sequential_bytes.Given as goal
 
-abbrev pub invariant-loop-i : goal.invariant-loop-i
-invariant-loop-i l = Stands (memory l.single l.offsets l.blob l.roots l.table) l.src l.initial.out l.out l.i l.n
+abbrev pub invariant-loop-offset : goal.invariant-loop-offset
+invariant-loop-offset l = Stands (cells_of l.memory) l.src l.initial.out l.out l.offset l.count
 
-abbrev pub decreases-loop-i : goal.decreases-loop-i
-decreases-loop-i l = length l.src - l.i
+abbrev pub decreases-loop-offset : goal.decreases-loop-offset
+decreases-loop-offset l = length l.src - l.offset
