@@ -17,6 +17,7 @@ use Rattle.laws.specs.Fill.{write}
 use Rattle.nodes.proofs.Chains.{length-map}
 use Rattle.nodes.specs.declared.Node.{Node}
 use Rattle.laws.specs.Tests.{yes_case, no_case}
+use Rattle.std.proofs.lemmas.List.{map-append}
 use Rattle.words.specs.NodeWords.{node_word, as_root, child_writes, node_writes, root_word}
 
 -- ---- words
@@ -109,10 +110,6 @@ module _ (M : ℕ → Node) (made : ℕ) where
   pub root-at : (r w : ℕ) (n : Node) → (r ≡ 0 → ⊥) → r < made → n ≡ M r → w ≡ as_root n → w ≡ root_word M made r
   unfolding root_word
   root-at r w n z h en ew = ew ∙ ap as_root en ∙ sym (no_case _ _ (ne_eqb r 0 z) ∙ no_case _ _ (lt-leb made r h))
-
-map-append : {A B : Type 0} (f : A → B) (s t : List A) → map f (s ++ t) ≡ map f s ++ map f t
-map-append f [] t = refl
-map-append {B} f (x ∷ s) t = ap (λ (l : List B). f x ∷ l) (map-append f s t)
 
 -- one cell more is replaced by what f makes of it
 module _ (f : ℕ → ℕ) (r : List ℕ) (i : ℕ) (h : i < length r) where
