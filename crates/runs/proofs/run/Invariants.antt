@@ -1,16 +1,15 @@
-use mathlib.Core.Path.{◌≡◌}
-use mathlib.Core.List.{List}
-use Prim.Native.Nat.{ℕ, ◌+◌, ◌-◌, ◌≤◌}
-use lib.ListN.{length}
-use Rattle.spec.specs.Memory.{memory}
+use Rattle.std.proofs.Common.{◌≡◌, ◌+◌, ◌-◌, ◌≤◌, length}
+use Rattle.memory.specs.Lent.{cells_of}
 use Rattle.runs.proofs.RunTurns.{Stands}
 use Rattle.runs.proofs.run.Given as goal
 
-abbrev pub invariant-loop-i : goal.invariant-loop-i
-invariant-loop-i l =
-    (length l.out ≡ length l.initial.out) × (l.i ≤ length l.src) × (l.n + (length l.src - l.i) ≤ length l.initial.out)
-    × ((offsets blob : List ℕ) → Stands (memory l.single offsets blob l.roots l.table)
-    l.src l.from l.stop l.start l.initial.out l.out l.i l.n)
+abbrev pub invariant-loop-at : goal.invariant-loop-at
+invariant-loop-at l = record {
+  long : length l.out ≡ length l.initial.out;
+  place : l.at ≤ length l.src;
+  room : l.count + (length l.src - l.at) ≤ length l.initial.out;
+  stands : Stands (cells_of l.memory) l.src l.from l.stop l.start l.initial.out l.out l.at l.count;
+}
 
-abbrev pub decreases-loop-i : goal.decreases-loop-i
-decreases-loop-i l = length l.src - l.i
+abbrev pub decreases-loop-at : goal.decreases-loop-at
+decreases-loop-at l = length l.src - l.at
