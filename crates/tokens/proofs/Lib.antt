@@ -3,4 +3,3 @@ pub mod CellRuns
 pub mod Stores
 pub mod PushMeans
 pub mod Begun
-pub mod Emptying

@@ -11,7 +11,7 @@ use native.Mathlib.Omega.{arith}
 use lib.IntN.{ℤ, pos}
 use lib.Dec.{eqb, ltb, leb}
 use lib.ListN.{length, take, drop, get_or, set, replicate, length-append, length-set, length-replicate, get_or-replicate}
-use lib.Seq.{sets, length-sets, get_or-set_same, get_or-set_other, drop-set-lt, length-take-le, get_or-take}
+use lib.Seq.{sets, length-sets, get_or-set_same, get_or-set_other, drop-set-lt}
 use borrow.Author.Tests.{eqb-true, eqb-false, eq-eqb, ne_eqb, le-ltb, le-leb, lt-leb, leb-true, leb-false}
 use Rattle.spec.specs.Lists.{each, fold, same, Bytes}
 use Rattle.spec.specs.Check.{pass, refuse, need}
@@ -29,13 +29,13 @@ use Rattle.loading.specs.Accepted.{Reads, valid_snoc}
 use Rattle.nodes.specs.Run.{Nodes, room}
 use Rattle.nodes.specs.Stands.{Stands, Grown, answer_for}
 use Rattle.nodes.proofs.InsertionMeans.{seen-id, stands_one, nodes-one}
-use Rattle.nodes.specs.declared.Inserted.{Inserted}
-use Rattle.nodes.specs.declared.Inserted.TheVariants.{Duplicate, NoRoom, Made}
-use Rattle.tokens.specs.Built.{Built, Kept, Counts, room_for, PushedAs, is_taken, no_room, one_entered, set_single, set_offsets}
+use Rattle.std.specs.Prelude.{Result, Ok, Err}
+use Rattle.refusals.specs.Numbers.{number}
+use Rattle.refusals.specs.declared.Refusal.{Refusal}
+use Rattle.refusals.specs.declared.Refusal.TheVariants.{SeenBefore, NodesFull, BlobFull}
+use Rattle.tokens.specs.Built.{Built, Kept, Counts, room_for, PushedAs, is_taken, one_entered, set_single, set_offsets}
 use Rattle.tokens.proofs.CellRuns.{run-before, run_in, run-behind, pad-more, by_index}
 use Rattle.tokens.specs.declared.Build.{Build}
-use Rattle.tokens.specs.declared.Pushed.{Pushed}
-use Rattle.tokens.specs.declared.Pushed.TheVariants.{Taken, Refused}
 
 -- ---- tokens and bytes
 
@@ -119,16 +119,16 @@ module _ (ts : List Token) (v : Valid ts) (t : Token) (r : Reads (last_id ts) t)
       fits false k e = lt-leb N (min n 4294967295) (let h = leb-false N n e in omega arith)
 
       go : Tested (seen ts t.bytes)
-          → cond (seen ts t.bytes) Duplicate (cond (leb N (min n 4294967295)) (Made N) NoRoom)
-          ≡ cond (seen ts t.bytes) Duplicate (cond (leb N n) (Made N) NoRoom)
+          → cond (seen ts t.bytes) (Err SeenBefore) (cond (leb N (min n 4294967295)) (Ok N) (Err NodesFull))
+          ≡ cond (seen ts t.bytes) (Err SeenBefore) (cond (leb N n) (Ok N) (Err NodesFull))
       go (inl e) = yes_case _ _ e ∙ sym (yes_case _ _ e)
       go (inr e) =
-          ap (λ (c : Bool). cond (seen ts t.bytes) Duplicate (cond c (Made N) NoRoom))
+          ap (λ (c : Bool). cond (seen ts t.bytes) (Err SeenBefore) (cond c (Ok N) (Err NodesFull)))
           (fits (leb N n) (node_count-small (ts ++ (t ∷ [])) (valid_snoc ts t v r e)) refl)
 
 -- without room for the nodes that there are, there is no token yet
 answer_full : (ts : List Token) → Valid ts → (t : Token) (n : ℕ) → (node_count ts ≤ n) ⊎ (ts ≡ []) → min n 4294967295 < node_count ts
-    → NoRoom ≡ answer_for ts t n
+    → Err NodesFull ≡ answer_for ts t n
 unfolding answer_for
 answer_full ts v t n (inl h) q = let k = node_count-small ts v in absurd (omega arith)
 answer_full ts v t n (inr e) q =
@@ -157,10 +157,10 @@ one_list [] e = absurd (omega arith)
 one_list (b ∷ []) e = refl
 one_list (b ∷ c ∷ l) e = absurd (omega arith)
 
-duplicate≢made : (n : ℕ) → Duplicate ≡ Made n → ⊥
+duplicate≢made : (n : ℕ) → ◌≡◌ {A = Result ℕ Refusal} (Err SeenBefore) (Ok n) → ⊥
 duplicate≢made n e = let z : ◌≡◌ {A = ℕ} 0 1 = cc in omega arith
 
-no_room≢made : (n : ℕ) → NoRoom ≡ Made n → ⊥
+no_room≢made : (n : ℕ) → ◌≡◌ {A = Result ℕ Refusal} (Err NodesFull) (Ok n) → ⊥
 no_room≢made n e = let z : ◌≡◌ {A = ℕ} 0 1 = cc in omega arith
 
 -- what an insertion asks: two bytes or more, and room for the nodes that it may use
@@ -191,7 +191,7 @@ module _ {ts : List Token} {s : List ℤ} {os bl rs : List ℕ} {ns : Nodes} {st
     cell = taken-seen ts low s B.single b small ∙ ap (seen ts) (sym bytes-are)
 
     -- one byte, seen before
-    enter-twice : is_taken (get_or s b (pos 0)) ≡ true → Grown ts t (room ns) Duplicate rs ns
+    enter-twice : is_taken (get_or s b (pos 0)) ≡ true → Grown ts t (room ns) (Err SeenBefore) rs ns
     unfolding answer_for
     enter-twice e = record { answer = sym (yes_case _ _ (sym cell ∙ e)); stands = λ n k. absurd (duplicate≢made n k) }
 
@@ -200,10 +200,10 @@ module _ {ts : List Token} {s : List ℤ} {os bl rs : List ℕ} {ns : Nodes} {st
         ap (λ (l : List ℕ). node_count (ts ++ (record { id = t.id; bytes = l } ∷ []))) bytes-are ∙ count_one ts t.id b ∙ sym B.made
 
     -- one byte, new: no node is made
-    enter_one : is_taken (get_or s b (pos 0)) ≡ false → Grown ts t (room ns) (Made st.made) rs ns
+    enter_one : is_taken (get_or s b (pos 0)) ≡ false → Grown ts t (room ns) (Ok st.made) rs ns
     unfolding answer_for
     enter_one e = record {
-      answer = ap Made (sym count_same)
+      answer = ap Ok (sym count_same)
           ∙ sym (no_case _ _ (sym cell ∙ e)
           ∙ yes_case _ _ (le-leb (node_count (ts ++ (t ∷ []))) (room ns) (let c = count_same in omega arith)));
       stands = λ n k. subst (λ (l : List ℕ). Stands (ts ++ (record { id = t.id; bytes = l } ∷ [])) rs ns) (sym bytes-are)
@@ -211,28 +211,19 @@ module _ {ts : List Token} {s : List ℤ} {os bl rs : List ℕ} {ns : Nodes} {st
     }
 
     -- one byte: its cell of `single` decides
-    enter-byte : (a : Inserted) → a ≡ one_entered s st.made b → Grown ts t (room ns) a rs ns
-    enter-byte a e = subst (λ (x : Inserted). Grown ts t (room ns) x rs ns) (sym e) (go (is_taken (get_or s b (pos 0))) refl)
+    pub enter-byte : (a : Result ℕ Refusal) → a ≡ one_entered s st.made b → Grown ts t (room ns) a rs ns
+    enter-byte a e = subst (λ (x : Result ℕ Refusal). Grown ts t (room ns) x rs ns) (sym e) (go (is_taken (get_or s b (pos 0))) refl)
       where
         go : (y : Bool) → is_taken (get_or s b (pos 0)) ≡ y → Grown ts t (room ns) (one_entered s st.made b) rs ns
-        go true y = subst (λ (x : Inserted). Grown ts t (room ns) x rs ns) (sym (yes_case _ _ y)) (enter-twice y)
-        go false y = subst (λ (x : Inserted). Grown ts t (room ns) x rs ns) (sym (no_case _ _ y)) (enter_one y)
+        go true y = subst (λ (x : Result ℕ Refusal). Grown ts t (room ns) x rs ns) (sym (yes_case _ _ y)) (enter-twice y)
+        go false y = subst (λ (x : Result ℕ Refusal). Grown ts t (room ns) x rs ns) (sym (no_case _ _ y)) (enter_one y)
 
   -- two bytes or more: the answer of an insertion with room for as many nodes as 32 bits count
-  pub enter-more : (cap : ℕ) → cap ≡ min (room ns) 4294967295 → (rs' : List ℕ) (ns' : Nodes) (a : Inserted)
+  pub enter-more : (cap : ℕ) → cap ≡ min (room ns) 4294967295 → (rs' : List ℕ) (ns' : Nodes) (a : Result ℕ Refusal)
       → (Stands ts rs ns → st.made ≡ node_count ts → 1 ≤ t.id → Grown ts t cap a rs' ns') → Grown ts t (room ns) a rs' ns'
   enter-more cap e rs' ns' a inserted =
       let G = inserted B.stands B.made idl in
       record { answer = G.answer ∙ ap (answer_for ts t) e ∙ answer-cap ts B.valid t r (room ns); stands = G.stands }
-
--- one byte of a run: n is 1
-pub enter-first : {ts : List Token} {s : List ℤ} {os bl rs : List ℕ} {ns : Nodes} {st : Build} → Built ts s os bl rs ns st
-    → (id n : ℕ) (l : List ℕ) → Reads (last_id ts) (record { id = id; bytes = take n l }) → st.made ≤ min (room ns) 4294967295
-    → n ≤ length l → n ≡ 1 → (a : Inserted) → a ≡ one_entered s st.made (get_or l 0 0)
-    → Grown ts (record { id = id; bytes = take n l }) (room ns) a rs ns
-enter-first B id n l r fits h e a ea =
-    enter-byte B (record { id = id; bytes = take n l }) r fits (length-take-le n l h ∙ e) (get_or l 0 0)
-    (sym (get_or-take n l 0 0 (omega arith))) a ea
 
 -- ---- what 16 to 18 say, for each way a token was entered
 
@@ -243,25 +234,17 @@ module _ (ts : List Token) (t : Token) (ns : Nodes) (bl rs' : List ℕ) (ns' : N
   abbrev more : List Token
   more = ts ++ (t ∷ [])
 
-  pub push-twice : Grown ts t (room ns) Duplicate rs' ns' → admit R ts t ≡ refuse 16
+  -- seen before, or no room for its nodes
+  pub push-refused : (e : Refusal) → Grown ts t (room ns) (Err e) rs' ns' → admit R ts t ≡ refuse (number e)
   unfolding admit answer_for need
-  push-twice G = go (seen ts t.bytes) (leb (node_count more) (room ns)) G.answer
+  push-refused e G = go (seen ts t.bytes) (leb (node_count more) (room ns)) G.answer
     where
-      go : (a b : Bool) → Duplicate ≡ cond a Duplicate (cond b (Made (node_count more)) NoRoom)
-          → need 16 (not a) (need 17 b (need 18 (leb (length (blob_bytes more)) (length bl)) (pass more))) ≡ refuse 16
-      go true b e = refl
-      go false true e = absurd (duplicate≢made (node_count more) e)
-      go false false e = let z : ◌≡◌ {A = ℕ} 0 1 = cc in absurd (omega arith)
-
-  pub push-full : Grown ts t (room ns) NoRoom rs' ns' → admit R ts t ≡ refuse 17
-  unfolding admit answer_for need
-  push-full G = go (seen ts t.bytes) (leb (node_count more) (room ns)) G.answer
-    where
-      go : (a b : Bool) → NoRoom ≡ cond a Duplicate (cond b (Made (node_count more)) NoRoom)
-          → need 16 (not a) (need 17 b (need 18 (leb (length (blob_bytes more)) (length bl)) (pass more))) ≡ refuse 17
-      go true b e = let z : ◌≡◌ {A = ℕ} 0 1 = cc in absurd (omega arith)
-      go false true e = absurd (no_room≢made (node_count more) e)
-      go false false e = refl
+      go : (a b : Bool)
+          → ◌≡◌ {A = Result ℕ Refusal} (Err e) (cond a (Err SeenBefore) (cond b (Ok (node_count more)) (Err NodesFull)))
+          → need 16 (not a) (need 17 b (need 18 (leb (length (blob_bytes more)) (length bl)) (pass more))) ≡ refuse (number e)
+      go true b q = let is : e ≡ SeenBefore = cc in ap (λ (x : Refusal). refuse (number x)) (sym is)
+      go false true q = cc
+      go false false q = let is : e ≡ NodesFull = cc in ap (λ (x : Refusal). refuse (number x)) (sym is)
 
   -- the nodes are made: the token is new, and they have room
   pub record Entered (n : ℕ) : Type 0 where
@@ -270,12 +253,12 @@ module _ (ts : List Token) (t : Token) (ns : Nodes) (bl rs' : List ℕ) (ns' : N
     pub fits : node_count more ≤ room ns
     pub blob-decides : admit R ts t ≡ need 18 (leb (length (blob_bytes more)) (length bl)) (pass more)
 
-  pub entered : (n : ℕ) → Grown ts t (room ns) (Made n) rs' ns' → Entered n
+  pub entered : (n : ℕ) → Grown ts t (room ns) (Ok n) rs' ns' → Entered n
   unfolding admit answer_for
   entered n G = go (seen ts t.bytes) refl (leb (node_count more) (room ns)) refl G.answer
     where
       go : (a : Bool) → seen ts t.bytes ≡ a → (b : Bool) → leb (node_count more) (room ns) ≡ b
-          → Made n ≡ cond a Duplicate (cond b (Made (node_count more)) NoRoom) → Entered n
+          → ◌≡◌ {A = Result ℕ Refusal} (Ok n) (cond a (Err SeenBefore) (cond b (Ok (node_count more)) (Err NodesFull))) → Entered n
       go true p b q e = absurd (duplicate≢made n (sym e))
       go false p false q e = absurd (no_room≢made n (sym e))
       go false p true q e = record {
@@ -287,14 +270,14 @@ module _ (ts : List Token) (t : Token) (ns : Nodes) (bl rs' : List ℕ) (ns' : N
             ∙ (unfold need in refl);
       }
 
-  pub push-short : (n : ℕ) → Grown ts t (room ns) (Made n) rs' ns' → length bl < length (blob_bytes ts) + length t.bytes → admit R ts t
+  pub push-short : (n : ℕ) → Grown ts t (room ns) (Ok n) rs' ns' → length bl < length (blob_bytes ts) + length t.bytes → admit R ts t
       ≡ refuse 18
   push-short n G h =
       (entered n G).blob-decides
       ∙ ap (λ (c : Bool). need 18 c (pass more)) (lt-leb (length (blob_bytes more)) (length bl) (let k = total_snoc ts t in omega arith))
       ∙ (unfold need in refl)
 
-  pub push-passes : (n : ℕ) → Grown ts t (room ns) (Made n) rs' ns' → length (blob_bytes ts) + length t.bytes ≤ length bl → admit R ts t
+  pub push-passes : (n : ℕ) → Grown ts t (room ns) (Ok n) rs' ns' → length (blob_bytes ts) + length t.bytes ≤ length bl → admit R ts t
       ≡ pass more
   push-passes n G h =
       (entered n G).blob-decides
@@ -399,7 +382,7 @@ module _ {ts : List Token} {s : List ℤ} {os bl rs : List ℕ} {ns : Nodes} {st
       ∙ pad-more bl (blob_bytes ts) bs B.blob (let e = B.used in omega arith)
       ∙ ap (λ (l : List ℕ). padded l (length bl)) (sym (blob_snoc ts t))
 
-  pub built-more : (n : ℕ) (rs' : List ℕ) (ns' : Nodes) → Grown ts t (room ns) (Made n) rs' ns' → length ns' ≡ length ns
+  pub built-more : (n : ℕ) (rs' : List ℕ) (ns' : Nodes) → Grown ts t (room ns) (Ok n) rs' ns' → length ns' ≡ length ns
       → (st' : Build) → Counts ts' st'
       → Built ts' (set_single s t.id bs) (set_offsets os st.previous t.id st.used) (sets bl st.used bs) rs' ns' st'
   built-more n rs' ns' G same st' C =
@@ -455,15 +438,10 @@ counts_of_built B = record { previous = B.previous; tokens = B.tokens; made = B.
 pub admits_none : {ts : List Token} {s : List ℤ} {os bl rs : List ℕ} {ns : Nodes} {st : Build} → Built ts s os bl rs ns st → (t : Token)
     (table : ℕ) → min (room ns) 4294967295 < st.made → admit (room_for ns bl table) ts t ≡ refuse 17
 admits_none {ts} {s} {os} {bl} {rs} {ns} B t table h =
-    push-full ts t ns bl rs ns table (record {
+    push-refused ts t ns bl rs ns table NodesFull (record {
       answer = answer_full ts B.valid t (room ns) B.node-room (let k = B.made in omega arith);
       stands = λ n k. absurd (no_room≢made n k);
     })
-
-pub pushed_none : (ts : List Token) (t : Token) (s : List ℤ) (os bl rs : List ℕ) (ns : Nodes) (table : ℕ) (p : Pushed) → p ≡ no_room
-    → admit (room_for ns bl table) ts t ≡ refuse 17 → PushedAs (room_for ns bl table) ts t p s os bl rs ns
-pushed_none ts t s os bl rs ns table p e h =
-    subst (λ (x : Pushed). PushedAs (room_for ns bl table) ts t x s os bl rs ns) (sym e) h
 
 -- a token with an id above the last one and 1 to 255 bytes
 pub reads_of : {ts : List Token} {s : List ℤ} {os bl rs : List ℕ} {ns : Nodes} {st : Build} → Built ts s os bl rs ns st → (t : Token)
@@ -480,29 +458,26 @@ same-built {ts} {s} {s'} {os} {os'} {bl} {bl'} {rs} {ns} {st} a b c B =
 
 module _ {ts : List Token} {s : List ℤ} {os bl rs : List ℕ} {ns : Nodes} {st : Build} (B : Built ts s os bl rs ns st) (t : Token)
     (r : Reads (last_id ts) t)
-    (table : ℕ) (rs' : List ℕ) (ns' : Nodes) (a : Inserted) (G : Grown ts t (room ns) a rs' ns') where
-  abbrev As : Pushed → List ℤ → List ℕ → List ℕ → Type 0
+    (table : ℕ) (rs' : List ℕ) (ns' : Nodes) (a : Result ℕ Refusal) (G : Grown ts t (room ns) a rs' ns') where
+  abbrev As : Result Build Refusal → List ℤ → List ℕ → List ℕ → Type 0
   As p s' os' bl' = PushedAs (room_for ns bl table) ts t p s' os' bl' rs' ns'
 
-  now-is : {x : Inserted} → a ≡ x → Grown ts t (room ns) x rs' ns'
-  now-is e = subst (λ (y : Inserted). Grown ts t (room ns) y rs' ns') e G
+  now-is : {x : Result ℕ Refusal} → a ≡ x → Grown ts t (room ns) x rs' ns'
+  now-is e = subst (λ (y : Result ℕ Refusal). Grown ts t (room ns) y rs' ns') e G
 
-  pub pushed-twice : a ≡ Duplicate → As (Refused 16) s os bl
-  pushed-twice e = push-twice ts t ns bl rs' ns' table (now-is e)
+  pub pushed-refused : (e : Refusal) → a ≡ Err e → As (Err e) s os bl
+  pushed-refused e is = push-refused ts t ns bl rs' ns' table e (now-is is)
 
-  pub pushed-full : a ≡ NoRoom → As (Refused 17) s os bl
-  pushed-full e = push-full ts t ns bl rs' ns' table (now-is e)
-
-  pub pushed_short : (n : ℕ) → a ≡ Made n → length bl < st.used + length t.bytes → As (Refused 18) s os bl
+  pub pushed_short : (n : ℕ) → a ≡ Ok n → length bl < st.used + length t.bytes → As (Err BlobFull) s os bl
   pushed_short n e h = push-short ts t ns bl rs' ns' table n (now-is e) (let k = B.used in omega arith)
 
-  pub pushed-taken : (n : ℕ) → a ≡ Made n → 256 ≤ length s → 65537 ≤ length os → st.used + length t.bytes ≤ length bl → length ns'
+  pub pushed-taken : (n : ℕ) → a ≡ Ok n → 256 ≤ length s → 65537 ≤ length os → st.used + length t.bytes ≤ length bl → length ns'
       ≡ length ns
       → (s' : List ℤ) → s' ≡ set_single s t.id t.bytes → (os' : List ℕ) → os' ≡ set_offsets os st.previous t.id st.used
       → (bl' : List ℕ) → bl' ≡ sets bl st.used t.bytes
       → (st' : Build) → ((ts : List Token) (u : Token) → Counts ts st → u.id ≡ t.id → length u.bytes ≡ length t.bytes
       → n ≡ node_count (ts ++ (u ∷ [])) → Counts (ts ++ (u ∷ [])) st')
-      → As (Taken st') s' os' bl'
+      → As (Ok st') s' os' bl'
   pushed-taken n e fs fo fb same s' es os' eo bl' eb st' C =
       let E = entered ts t ns bl rs' ns' table n (now-is e) in (
         push-passes ts t ns bl rs' ns' table n (now-is e) (let k = B.used in omega arith),

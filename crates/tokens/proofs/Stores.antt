@@ -1,14 +1,13 @@
 -- What the stores of one token make, in the terms of the contracts. Assumes nothing.
-use mathlib.Core.Path.{◌≡◌, refl, sym, ap, ap₂, ◌∙◌}
-use mathlib.Core.List.{List}
-use Prim.Native.Nat.{ℕ, ◌+◌, ◌-◌, ◌≤◌}
-use lib.IntN.{ℤ, pos, negsuc}
+use Rattle.std.proofs.Common.{◌≡◌, ℕ, ◌+◌, ◌-◌, ◌≤◌, ◌<◌, ℤ, pos, negsuc, List, ◌++◌, length, get_or, set, take, drop, replicate, refl, sym, ap, ap₂}
+use Rattle.std.proofs.Common.{◌∙◌, arith, eq-eqb, ne_eqb, length-drop, length-take-le}
+use Rattle.std.proofs.Math.Seq.{take-length, sets}
+use Rattle.std.proofs.lemmas.List.{length-replicate}
+use Rattle.std.proofs.lemmas.List.Edits.{sets-eq}
+use Rattle.std.proofs.lemmas.Slice.{put_mid-paste}
+use borrow.Rule.Slice.PartMut.{put_mid}
 use lib.Dec.{leb-zero}
-use lib.ListN.{length, get_or, set, drop, replicate}
-use lib.Seq.{sets, paste}
-use Rattle.cells.proofs.Runs.{copied-whole}
 use lib.Signed.{le_z}
-use borrow.Author.Tests.{eq-eqb, ne_eqb}
 use Rattle.laws.specs.Tests.{yes_case, no_case}
 use Rattle.tokens.specs.Built.{is_taken, set_single, set_offsets}
 
@@ -16,8 +15,8 @@ pub taken-test : (x : ℤ) → le_z (pos 0) x ≡ is_taken x
 taken-test (pos n) = leb-zero n
 taken-test (negsuc n) = refl
 
-pub single_one : (s : List ℤ) (id : ℕ) (bs : List ℕ) (i : ℕ) (v : ℤ) → length bs ≡ 1 → i ≡ get_or bs 0 0 → v ≡ pos id → set s i v
-    ≡ set_single s id bs
+pub single_one : (s : List ℤ) (id : ℕ) (bs : List ℕ) (i : ℕ) (v : ℤ) → length bs ≡ 1 → i ≡ get_or bs 0 0 → v ≡ pos id
+    → set s i v ≡ set_single s id bs
 unfolding set_single
 single_one s id bs i v e a b = ap₂ (set s) a b ∙ sym (yes_case _ _ (eq-eqb (length bs) 1 e))
 
@@ -25,14 +24,21 @@ pub single_other : (s : List ℤ) (id : ℕ) (bs : List ℕ) → (length bs ≡ 
 unfolding set_single
 single_other s id bs e = sym (no_case _ _ (ne_eqb (length bs) 1 e))
 
-pub offsets_run : (os os' : List ℕ) (previous id total from n : ℕ) → os' ≡ sets os (from + 1) (replicate n total) → from ≡ previous → n
-    ≡ id - previous
-    → os' ≡ set_offsets os previous id total
-offsets_run os os' previous id total from n e a b = e ∙ ap₂ (λ (x y : ℕ). sets os (x + 1) (replicate y total)) a b
+-- a part of a slice that is written is a run of stores
+pub part_written : (a k : ℕ) (l ys vs : List ℕ) → ys ≡ vs → length vs ≡ k → a + length vs ≤ length l → put_mid a k l ys ≡ sets l a vs
+part_written a k l ys vs e n h =
+    put_mid-paste a k l ys vs (length vs) e n refl
+    ∙ ap (λ (r : List ℕ). take a l ++ r ++ drop (a + length vs) l) (take-length vs) ∙ sym (sets-eq vs l a h)
 
--- the token's bytes behind those of the others
-pub bytes_copied : (bl bl' bs : List ℕ) (used at : ℕ) → bl' ≡ paste bl at (drop 0 bs) (length bs) → at ≡ used
-    → used + length bs ≤ length bl
-    → bl' ≡ sets bl used bs
-bytes_copied bl bl' bs used at e a h =
-    e ∙ ap (λ (x : ℕ). paste bl x bs (length bs)) a ∙ copied-whole bl used bs h
+-- the same of one value
+pub part_filled : (os ys : List ℕ) (previous from id total : ℕ) → from ≡ previous → previous < id → id < length os
+    → ys ≡ replicate (length (take (id + 1 - (from + 1)) (drop (from + 1) os))) total
+    → put_mid (from + 1) (id + 1 - (from + 1)) os ys ≡ set_offsets os previous id total
+part_filled os ys previous from id total ef h k e =
+    let a = length-drop (from + 1) os in
+    let b = length-take-le (id + 1 - (from + 1)) (drop (from + 1) os) (omega arith) in
+    let n : length (take (id + 1 - (from + 1)) (drop (from + 1) os)) ≡ id - previous = omega arith in
+    let l = length-replicate (id - previous) total in
+    part_written (from + 1) (id + 1 - (from + 1)) os ys (replicate (id - previous) total) (e ∙ ap (λ (x : ℕ). replicate x total) n)
+    (omega arith) (omega arith)
+    ∙ ap (λ (x : ℕ). sets os (x + 1) (replicate (id - previous) total)) ef

@@ -1,7 +1,7 @@
 -- What the vocabulary memory and the nodes hold while tokens are pushed, and what a push has to answer. Definitions only.
 -- Assumes nothing.
 use Rattle.std.specs.Prelude.{◌≡◌, ◌⊎◌, Bool, true, false, cond, List, [], ◌∷◌, ◌++◌, ℕ, ◌+◌, ◌-◌, ◌≤◌, ◌<◌, eqb, ℤ, pos, negsuc}
-use Rattle.std.specs.Prelude.{length, take, drop, get_or, set, replicate}
+use Rattle.std.specs.Prelude.{length, take, drop, get_or, set, replicate, Result, Ok, Err}
 use Rattle.std.proofs.lemmas.List.Edits.{sets}
 use Rattle.spec.specs.Check.{pass, refuse}
 use Rattle.spec.specs.Token.{Token}
@@ -11,11 +11,12 @@ use Rattle.spec.specs.Memory.{length_before, single_list, blob_bytes, padded}
 use Rattle.spec.specs.Load.{Room, admit, last_id}
 use Rattle.nodes.specs.Run.{Nodes, room}
 use Rattle.nodes.specs.Stands.{Stands}
-use Rattle.nodes.specs.declared.Inserted.{Inserted}
-use Rattle.nodes.specs.declared.Inserted.TheVariants.{Duplicate, Made}
+use Rattle.nodes.specs.Insertion.{Entered}
+use Rattle.memory.specs.declared.MemoryMut.{MemoryMut}
+use Rattle.refusals.specs.Numbers.{number}
+use Rattle.refusals.specs.declared.Refusal.{Refusal}
+use Rattle.refusals.specs.declared.Refusal.TheVariants.{SeenBefore}
 use Rattle.tokens.specs.declared.Build.{Build}
-use Rattle.tokens.specs.declared.Pushed.{Pushed}
-use Rattle.tokens.specs.declared.Pushed.TheVariants.{Taken, Refused}
 
 -- ---- the state of a build
 
@@ -34,11 +35,18 @@ pub record Built (ts : List Token) (s : List ℤ) (os bl rs : List ℕ) (ns : No
   pub stands : Stands ts rs ns
   pub node-room : (node_count ts ≤ room ns) ⊎ (ts ≡ [])
 
+-- the same of the slices that are lent
+abbrev pub BuiltIn : List Token → MemoryMut → Nodes → Build → Type 0
+BuiltIn ts m ns st = Built ts m.single.now m.offsets.now m.blob.now m.roots.now ns st
+
 -- "Cells of the first, second and fourth past these lengths are never touched"
 pub record Kept (s : List ℤ) (os rs : List ℕ) (s' : List ℤ) (os' rs' : List ℕ) : Type 0 where
   pub single : drop 256 s' ≡ drop 256 s
   pub offsets : drop 65537 os' ≡ drop 65537 os
   pub roots : drop 65536 rs' ≡ drop 65536 rs
+
+abbrev pub KeptIn : MemoryMut → MemoryMut → Type 0
+KeptIn m m' = Kept m.single.now m.offsets.now m.roots.now m'.single.now m'.offsets.now m'.roots.now
 
 -- `st` counts the tokens
 pub record Counts (ts : List Token) (st : Build) : Type 0 where
@@ -59,10 +67,13 @@ pub record Small (st : Build) : Type 0 where
 abbrev pub room_for : Nodes → List ℕ → ℕ → Room
 room_for ns bl table = record { nodes = room ns; blob = length bl; table = table }
 
--- Taken: 16 to 18 passed, and the memory holds the tokens with this one. Refused: by the number that the table gives.
-abbrev pub PushedAs : Room → List Token → Token → Pushed → List ℤ → List ℕ → List ℕ → List ℕ → Nodes → Type 0
-PushedAs r ts t (Taken st) s os bl rs ns = (admit r ts t ≡ pass (ts ++ (t ∷ []))) × Built (ts ++ (t ∷ [])) s os bl rs ns st
-PushedAs r ts t (Refused n) s os bl rs ns = admit r ts t ≡ refuse n
+-- Ok: 16 to 18 passed, and the memory holds the tokens with this one. Err: the refusal that the table gives.
+abbrev pub PushedAs : Room → List Token → Token → Result Build Refusal → List ℤ → List ℕ → List ℕ → List ℕ → Nodes → Type 0
+PushedAs r ts t (Ok st) s os bl rs ns = (admit r ts t ≡ pass (ts ++ (t ∷ []))) × Built (ts ++ (t ∷ [])) s os bl rs ns st
+PushedAs r ts t (Err e) s os bl rs ns = admit r ts t ≡ refuse (number e)
+
+abbrev pub PushedIn : Room → List Token → Token → Result Build Refusal → MemoryMut → Nodes → Type 0
+PushedIn r ts t p m ns = PushedAs r ts t p m.single.now m.offsets.now m.blob.now m.roots.now ns
 
 -- ---- a token's own cells
 
@@ -71,13 +82,9 @@ abbrev pub is_taken : ℤ → Bool
 is_taken (pos n) = true
 is_taken (negsuc n) = false
 
--- 17: no node for the token
-abbrev pub no_room : Pushed
-no_room = Refused 17
-
 -- a token of one byte among the others: seen before, or no node more
-abbrev pub one_entered : List ℤ → ℕ → ℕ → Inserted
-one_entered s made b = cond (is_taken (get_or s b (pos 0))) Duplicate (Made made)
+abbrev pub one_entered : List ℤ → ℕ → ℕ → Entered
+one_entered s made b = cond (is_taken (get_or s b (pos 0))) (Err SeenBefore) (Ok made)
 
 -- a token of one byte has its id in `single`
 unfoldable pub set_single : List ℤ → ℕ → List ℕ → List ℤ

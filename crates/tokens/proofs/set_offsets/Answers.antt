@@ -1,7 +1,6 @@
--- `tokens::set_offsets` meets its contract: one run of stores. Assumes nothing.
-use Rattle.tokens.proofs.Stores.{offsets_run}
+use Rattle.std.proofs.Common.{arith}
+use Rattle.tokens.proofs.Stores.{part_filled}
 use Rattle.tokens.proofs.set_offsets.Goals as goal
 
 pub returns : goal.returns
-returns c = offsets_run _ _ _ _ _ _ _ c.fill_u32.ensures c.u16_to_usize.ensures
-    c.u16_to_usize-2.ensures
+returns c = part_filled _ _ _ _ _ _ c.from.ensures c.requires.1 (omega (arith, c.requires)) (c.fill.ensures.after (λ y e. e))

@@ -1,11 +1,7 @@
--- `tokens::write` meets its contract: one call for each part. Assumes nothing.
-use Rattle.tokens.proofs.Stores.{bytes_copied}
+use Rattle.std.proofs.Common.{arith}
+use Rattle.tokens.proofs.Stores.{part_written}
 use Rattle.tokens.proofs.write.Goals as goal
 
-pub returns : goal.returns
-returns c =
-    record {
-      single = c.set_single.ensures;
-      offsets = c.set_offsets.ensures;
-      blob = bytes_copied c.args.blob.now _ c.args.bytes.now c.args.st.used _ c.copy.ensures c.u32_to_usize.ensures c.requires.4;
-    }
+pub returns-clause-blob : goal.returns-clause-blob
+returns-clause-blob c =
+    part_written c.args.st.used _ c.args.blob.now _ c.args.bytes.now c.copy_from_slice.ensures.after (omega arith) c.requires.3
