@@ -1,3 +1,2 @@
--- Laws of the definitions that the proofs of this crate and of the calls of a stream cite.
+-- The refusals of a stream call, and what a call comes to.
 pub mod Refusing
-pub mod HeldPadded

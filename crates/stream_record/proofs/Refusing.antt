@@ -1,25 +1,18 @@
 -- The refusals of a stream call, case by case, and what a call comes to that is refused or goes through. Assumes nothing.
-use mathlib.Core.Path.{◌≡◌, refl, sym, ap, ◌∙◌}
+use mathlib.Core.Path.{◌≡◌, refl, sym}
 use mathlib.Core.Bool.{Bool, true, false, ◌||◌, true≢false}
 use Rattle.std.specs.Prelude.{None, Some}
 use mathlib.Core.List.{List, []}
-use Prim.Native.Nat.{ℕ, ◌+◌, ◌≤◌, ◌<◌}
+use Prim.Native.Nat.{ℕ, ◌+◌, ◌≤◌}
 use native.Mathlib.Omega.{arith}
 use lib.Dec.{eqb, leb, ltb}
 use lib.ListN.{length}
-use borrow.Author.Tests.{le-leb, lt-leb, lt-ltb, le-ltb, eq-eqb, ne_eqb, ltb-false}
+use borrow.Author.Tests.{le-ltb, ltb-false}
 use Rattle.spec.specs.Answer.{Answer, bare}
 use Rattle.spec.specs.Memory.{Memory, too_short}
-use Rattle.spec.specs.Stream.{StreamRecord, Call, add, end, again, call_refusal, unchanged, goes_through, call_on}
+use Rattle.spec.specs.Stream.{StreamRecord, Call, add, end, call_refusal, unchanged, goes_through, call_on}
 
 -- ── Tests joined by "or" ─────────────────────────────────────────────
-
-or_right : (a : Bool) {b : Bool} → b ≡ true → (a || b) ≡ true
-or_right true e = refl
-or_right false e = e
-
-or-both : {a b : Bool} → a ≡ false → b ≡ false → (a || b) ≡ false
-or-both {b} p q = ap (λ (x : Bool). x || b) p ∙ q
 
 or-none : (a b : Bool) → (a || b) ≡ false → (a ≡ false) × (b ≡ false)
 or-none true b e = absurd (true≢false e)
@@ -39,46 +32,6 @@ pub record Passes (r : StreamRecord) (piece out : ℕ) : Type 0 where
   pub held : r.held_len ≤ r.total
   pub total : r.total + piece ≤ 4294967295
   pub room : r.held_len + piece ≤ out
-
-module _ (r : StreamRecord) (piece out : List ℕ) where
-  ended : has_ended r ≡ true → Some (bare 26) ≡ call_refusal r (add piece out)
-  unfolding call_refusal
-  ended e = rw (e, call_refusal)
-
-  pub ended-by-phase : 2 ≤ r.phase → Some (bare 26) ≡ call_refusal r (add piece out)
-  ended-by-phase h = ended (ap (λ (x : Bool). x || (ltb 254 r.held_len || ltb r.total r.held_len)) (le-leb 2 r.phase h))
-
-  pub ended-by-held : 254 < r.held_len → Some (bare 26) ≡ call_refusal r (add piece out)
-  ended-by-held h = ended (or_right (leb 2 r.phase) (ap (λ (x : Bool). x || ltb r.total r.held_len) (lt-ltb 254 r.held_len h)))
-
-  pub ended-by-total : r.total < r.held_len → Some (bare 26) ≡ call_refusal r (add piece out)
-  ended-by-total h = ended (or_right (leb 2 r.phase) (or_right (ltb 254 r.held_len) (lt-ltb r.total r.held_len h)))
-
-  module _ (a : r.phase < 2) (b : r.held_len ≤ 254) (c : r.held_len ≤ r.total) where
-    going : has_ended r ≡ false
-    going = or-both (lt-leb 2 r.phase a) (or-both (le-ltb 254 r.held_len b) (le-ltb r.total r.held_len c))
-
-    pub is-again : r.phase ≡ 1 → Some (again r) ≡ call_refusal r (add piece out)
-    unfolding call_refusal
-    is-again h = rw (going, call_refusal) (rw (eq-eqb r.phase 1 h))
-
-    module _ (d : r.phase ≡ 1 → ⊥) where
-      pub is-too-many : 4294967295 < r.total + length piece → Some (bare 25) ≡ call_refusal r (add piece out)
-      unfolding call_refusal
-      is-too-many h = rw (going, call_refusal) (rw (ne_eqb r.phase 1 d) (rw (lt-ltb 4294967295 (r.total + length piece) h)))
-
-      module _ (e : r.total + length piece ≤ 4294967295) where
-        pub is-output-short : length out < r.held_len + length piece → Some (bare 24) ≡ call_refusal r (add piece out)
-        unfolding call_refusal
-        is-output-short h = rw (going, call_refusal)
-            (rw (ne_eqb r.phase 1 d) (rw (le-ltb 4294967295 (r.total + length piece) e)
-            (rw (lt-ltb (length out) (r.held_len + length piece) h))))
-
-        pub is_none : r.held_len + length piece ≤ length out → None ≡ call_refusal r (add piece out)
-        unfolding call_refusal
-        is_none h = rw (going, call_refusal)
-            (rw (ne_eqb r.phase 1 d) (rw (le-ltb 4294967295 (r.total + length piece) e)
-            (rw (le-ltb (length out) (r.held_len + length piece) h))))
 
 -- ── A call that goes through ─────────────────────────────────────────
 
@@ -136,11 +89,3 @@ module _ (m : Memory) (r : StreamRecord) (c : Call) where
     pub call-through : None ≡ call_refusal r c → call_on m r c ≡ goes_through m r c
     unfolding call_on
     call-through e = rw (long, call_on) (rw (sym e))
-
--- memory that number 1 does not refuse
-pub long_enough : (m : Memory) → too_short m ≡ false → (256 ≤ length m.single) × (65536 ≤ length m.roots)
-unfolding too_short
-long_enough m e =
-    let w = or-none (ltb (length m.single) 256) (ltb (length m.offsets) 65537 || ltb (length m.roots) 65536) e in
-    let v = or-none (ltb (length m.offsets) 65537) (ltb (length m.roots) 65536) w.1 in
-    (ltb-false (length m.single) 256 w.0, ltb-false (length m.roots) 65536 v.1)

@@ -1,17 +1,15 @@
 -- The values of this crate's types as those of the definitions: the record, and what a call answers, each of whose cases has document 01's
 -- number and values. Assumes nothing.
 use Rattle.std.specs.Prelude.{◌≡◌, List, ℕ}
-use Rattle.std.specs.Prelude.{Option, None, Some}
+use Rattle.std.specs.Prelude.{Option, None, Some, Result, Ok, Err}
 use Rattle.spec.specs.Lists.{over}
 use Rattle.spec.specs.Answer as spec
 use Rattle.spec.specs.Stream as spec-stream
 use Rattle.spec.specs.Stream.{StreamRecord}
 use Rattle.stream_record.specs.declared.Stream.{Stream}
-use Rattle.stream_record.specs.declared.Answer.{Answer}
-use Rattle.stream_record.specs.declared.Answer.TheVariants.{Taken, ShortMemory, Ended, TooMany, OutputShort, Stopped}
+use Rattle.stream_record.specs.declared.StreamError.{StreamError}
+use Rattle.stream_record.specs.declared.StreamError.TheVariants.{ShortMemory, Ended, TooMany, OutputShort, Stopped}
 use Rattle.stream_record.specs.declared.Called.{Called}
-use Rattle.stream_record.specs.declared.Refusal.{Refusal}
-use Rattle.stream_record.specs.declared.Refusal.TheVariants.{None, By}
 
 abbrev pub record_of : Stream → StreamRecord
 record_of s = record {
@@ -23,18 +21,19 @@ record_of s = record {
   stop_byte = s.stop_byte;
 }
 
--- 0, 1, 26, 25, 24 and 22, with what each carries
-abbrev pub answer_of : Answer → spec.Answer
-answer_of (Taken count) = spec.whole count
-answer_of ShortMemory = spec.bare 1
-answer_of Ended = spec.bare 26
-answer_of TooMany = spec.bare 25
-answer_of OutputShort = spec.bare 24
-answer_of (Stopped count offset byte) = record { number = 22; count = count; place = offset; value = byte }
+-- how many ids were handed out, or 1, 26, 25, 24 and 22, with what each carries
+abbrev pub answer_of : Result ℕ StreamError → spec.Answer
+answer_of (Ok count) = spec.whole count
+answer_of (Err ShortMemory) = spec.bare 1
+answer_of (Err Ended) = spec.bare 26
+answer_of (Err TooMany) = spec.bare 25
+answer_of (Err OutputShort) = spec.bare 24
+answer_of (Err (Stopped count offset byte)) = record { number = 22; count = count; place = offset; value = byte }
 
-abbrev pub refusal_of : Refusal → Option spec.Answer
-refusal_of None = None
-refusal_of (By a) = Some (answer_of a)
+-- the answer of a call that is refused, or none
+abbrev pub refusal_of : Result (Unit {0}) StreamError → Option spec.Answer
+refusal_of (Ok u) = None
+refusal_of (Err e) = Some (answer_of (Err e))
 
 -- A call gave r and left after where before was lent: its answer, its record, and its ids "from the output's start, with its count; other
 -- cells are untouched".

@@ -8,13 +8,15 @@ ghost use Rattle.spec.specs.Stream as spec;
 ghost use Rattle.stream_record.specs.Answers.{record_of, refusal_of};
 
 // Phases of a stream; any other number counts as ended.
+// Kept: the C interface; a program lends the record with any number in it.
 pub const OPEN: u8 = 0;
 
 pub const STOPPED: u8 = 1;
 
 pub const ENDED: u8 = 2;
 
-// A stream between two calls: the bytes taken in all, those from the first undecided position on, and where it stopped.
+/// A stream between two calls: the bytes taken in all, those from the first undecided position on, and where it stopped.
+// Kept: the C interface; a C program lays the record out, so that the held bytes are an array beside their number.
 #[repr(C)]
 #[derive(Clone, Copy)]
 pub struct Stream {
@@ -26,10 +28,18 @@ pub struct Stream {
     pub phase: u8,
 }
 
-// What a call answers: ids handed out, or numbers 1, 26, 25, 24 and 22 (new or repeated).
-#[derive(Clone, Copy)]
-pub enum Answer {
-    Taken { count: usize },
+const FRESH: Stream = Stream {
+    total: 0,
+    stop_offset: 0,
+    held: [0; 254],
+    held_len: 0,
+    stop_byte: 0,
+    phase: OPEN,
+};
+
+/// Why a call hands out no ids, or why it stops the stream: numbers 1, 26, 25, 24 and 22 (new or repeated).
+#[derive(Clone, Copy, Debug, PartialEq, Eq)]
+pub enum StreamError {
     ShortMemory,
     Ended,
     TooMany,
@@ -37,64 +47,45 @@ pub enum Answer {
     Stopped { count: usize, offset: u32, byte: u8 },
 }
 
-// A call's answer and the record that it leaves.
+/// A call's answer, how many ids it handed out, and the record that it leaves.
 #[derive(Clone, Copy)]
 pub struct Called {
     pub stream: Stream,
-    pub answer: Answer,
+    pub answer: Result<usize, StreamError>,
 }
 
-// A new stream.
+/// A new stream.
 pub fn fresh() -> Stream
     ensures { record_of result ≡ spec.fresh }
 {
-    Stream {
-        total: 0,
-        stop_offset: 0,
-        held: [0u8; 254],
-        held_len: 0,
-        stop_byte: 0,
-        phase: OPEN,
-    }
+    FRESH
 }
 
-// A call is refused with an answer, or it goes through.
-#[derive(Clone, Copy)]
-pub enum Refusal {
-    None,
-    By(Answer),
-}
-
-// Numbers 26, 22, 25 and 24, for a piece and an output of these lengths.
-pub fn refused_by(stream: Stream, piece: usize, out: usize) -> Refusal
+/// Numbers 26, 22, 25 and 24, for a piece and an output of these lengths.
+#[tactic(auto, using(std::proofs::lemmas::Bool::Decides::nat_tests), unfolding(spec::specs::Stream::call_refusal))]
+pub fn refused_by(stream: Stream, piece: usize, out: usize) -> Result<(), StreamError>
     ensures { (bytes cells : List ℕ) → length bytes ≡ piece → length cells ≡ out
         → refusal_of result ≡ spec.call_refusal (record_of stream) (spec.add bytes cells) }
 {
-    let held = stream.held_len as usize;
+    let held = usize::from(stream.held_len);
     let total = stream.total as usize;
-    if ENDED <= stream.phase {
-        return Refusal::By(Answer::Ended);
-    }
-    if 254 < held {
-        return Refusal::By(Answer::Ended);
-    }
-    if total < held {
-        return Refusal::By(Answer::Ended);
+    if ENDED <= stream.phase || 254 < held || total < held {
+        return Err(StreamError::Ended);
     }
     if stream.phase == STOPPED {
-        return Refusal::By(Answer::Stopped {
+        return Err(StreamError::Stopped {
             count: 0,
             offset: stream.stop_offset,
             byte: stream.stop_byte,
         });
     }
     if 4294967295 - total < piece {
-        return Refusal::By(Answer::TooMany);
+        return Err(StreamError::TooMany);
     }
     if out < held + piece {
-        return Refusal::By(Answer::OutputShort);
+        return Err(StreamError::OutputShort);
     }
-    Refusal::None
+    Ok(())
 }
 
 // The held bytes of a record, with zeros past them.
@@ -102,46 +93,46 @@ fn hold(rest: &[u8]) -> [u8; 254]
     requires { length rest.now ≤ 254 }
     ensures { result ≡ padded rest.now 254 }
 {
-    let mut held = [0u8; 254];
-    cells::copy(rest, 0, rest.len(), &mut held, 0);
+    let mut held = [0; 254];
+    held[..rest.len()].copy_from_slice(rest);
     held
 }
 
-// A call that leaves the stream open, with these bytes held.
+/// A call that leaves the stream open, with these bytes held.
 pub fn opened(total: u32, rest: &[u8], count: usize) -> Called
     requires { length rest.now ≤ 254 }
-    ensures { (result.answer ≡ Answer.Taken count) × (record_of result.stream ≡ spec.holding 0 total rest.now) }
+    ensures { (result.answer ≡ Ok count) × (record_of result.stream ≡ spec.holding 0 total rest.now) }
 {
+    let stream = Stream {
+        total,
+        held: hold(rest),
+        held_len: rest.len() as u8,
+        ..FRESH
+    };
     Called {
-        stream: Stream {
-            total,
-            stop_offset: 0,
-            held: hold(rest),
-            held_len: rest.len() as u8,
-            stop_byte: 0,
-            phase: OPEN,
-        },
-        answer: Answer::Taken { count },
+        stream,
+        answer: Ok(count),
     }
 }
 
-// A call that stops the stream: held bytes are dropped.
+/// A call that stops the stream: held bytes are dropped.
 pub fn stopped(total: u32, offset: u32, byte: u8, count: usize) -> Called
-    ensures { (result.answer ≡ Answer.Stopped count offset byte) × (record_of result.stream ≡ spec.stopped_at total offset byte) }
+    ensures { (result.answer ≡ Err (StreamError.Stopped count offset byte))
+        × (record_of result.stream ≡ spec.stopped_at total offset byte) }
 {
+    let stream = Stream {
+        total,
+        stop_offset: offset,
+        stop_byte: byte,
+        phase: STOPPED,
+        ..FRESH
+    };
     Called {
-        stream: Stream {
-            total,
-            stop_offset: offset,
-            held: [0u8; 254],
-            held_len: 0,
-            stop_byte: byte,
-            phase: STOPPED,
-        },
-        answer: Answer::Stopped {
+        stream,
+        answer: Err(StreamError::Stopped {
             count,
             offset,
             byte,
-        },
+        }),
     }
 }
