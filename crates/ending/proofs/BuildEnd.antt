@@ -9,7 +9,7 @@ use native.Mathlib.Omega.{arith}
 use lib.IntN.{ℤ, pos}
 use lib.Dec.{leb}
 use lib.ListN.{length, drop, get_or, replicate, length-replicate, get_or-replicate}
-use lib.Seq.{sets, length-sets}
+use lib.Seq.{length-sets}
 use borrow.Author.Tests.{leb-true, leb-false}
 use Rattle.spec.specs.Lists.{over, up_from}
 use Rattle.spec.specs.Token.{Token, seen}
@@ -21,16 +21,15 @@ use Rattle.laws.specs.Tests.{Tested, either}
 use Rattle.laws.specs.Reads.{offset-length}
 use Rattle.laws.specs.Spans.{before-all}
 use Rattle.words.specs.LayoutAnswer.{answer_for, PackedAs}
-use Rattle.words.specs.declared.Packed.{Packed}
-use Rattle.words.specs.declared.Packed.TheVariants.{Words, NoRoom}
+use Rattle.std.specs.Prelude.{Result, Ok, Err}
+use Rattle.refusals.specs.declared.LoadError.{LoadError}
+use Rattle.refusals.specs.declared.Refusal.TheVariants.{NoTokens, ByteMissing}
+use Rattle.refusals.specs.declared.Place.TheVariants.{Byte}
 use Rattle.tokens.specs.Built.{Built, Kept, is_taken, set_offsets}
-use Rattle.ending.specs.EndOfBuild.{SingleOf, missing_of, FinishedAs, finished_of}
+use Rattle.ending.specs.EndOfBuild.{SingleOf, FinishedAs, finished_of}
 use Rattle.tokens.proofs.CellRuns.{run-before, run_in, run-behind, by_index, over_of}
 use Rattle.tokens.proofs.PushMeans.{taken-seen, last_most}
 use Rattle.tokens.specs.declared.Build.{Build}
-use Rattle.ending.specs.declared.Missing.{Missing}
-use Rattle.ending.specs.declared.Missing.TheVariants.{Byte}
-use Rattle.ending.specs.declared.Finished.{Finished}
 
 -- ---- a byte that is missing, by its cell of `single`
 
@@ -61,14 +60,6 @@ pub missing-end : (ts : List Token) (b : ℕ) → 256 ≤ b → None ≡ missing
 missing-end ts b h = let k : 256 - b ≡ 0 = omega arith in sym (ap (λ (n : ℕ). missing ts n b) k ∙ (unfold missing in refl))
 
 -- ---- the offsets behind the last id
-
--- one run of stores
-pub total_run : (os os' : List ℕ) (previous total from n : ℕ) → os' ≡ sets os (from + 1) (replicate n total) → from ≡ previous → n
-    ≡ 65536 - from
-    → os' ≡ set_offsets os previous 65536 total
-total_run os os' previous total from n e a b =
-    let c : n ≡ 65536 - previous = b ∙ ap (λ (x : ℕ). 65536 - x) a in
-    e ∙ ap₂ (λ (x y : ℕ). sets os (x + 1) (replicate y total)) a c
 
 module _ {ts : List Token} {s : List ℤ} {os bl rs : List ℕ} {ns : Nodes} {st : Build} (B : Built ts s os bl rs ns st)
     (long : 65537 ≤ length os) (small : st.previous < 65536) where
@@ -122,10 +113,10 @@ module _ (partial : Bool) (r : Room) where
 
   module _ {ts : List Token} {s : List ℤ} {os bl rs : List ℕ} {ns : Nodes} {st : Build} (B : Built ts s os bl rs ns st)
       (tb os' rs' tb' : List ℕ) where
-    abbrev As : Finished → Type 0
+    abbrev As : Result ℕ LoadError → Type 0
     As f = FinishedAs partial r ts f os rs tb os' rs' tb'
 
-    pub finished-none : st.tokens ≡ 0 → As Finished.NoTokens
+    pub finished-none : st.tokens ≡ 0 → As (Err (record { refusal = NoTokens; place = None }))
     finished-none e = finish-none ts (let k = B.tokens in omega arith)
 
     module _ (tokens : st.tokens ≡ 0 → ⊥) where
@@ -135,43 +126,43 @@ module _ (partial : Bool) (r : Room) where
       goes : (o : Option ℕ) → demanded partial (missing ts 256 0) ≡ o → finish partial r ts ≡ ending o ts
       goes o e = finish-some ts some-tokens ∙ ap (λ (x : Option ℕ). ending x ts) e
 
-      pub finished-wanting : (m : Missing) → missing_of m ≡ demanded partial (missing ts 256 0) → (b : ℕ) → m ≡ Byte b
-          → As (Finished.Wanting b)
-      finished-wanting m e b k = goes (Some b) (sym e ∙ ap missing_of k)
+      pub finished-wanting : (b : ℕ) → Some b ≡ demanded partial (missing ts 256 0)
+          → As (Err (record { refusal = ByteMissing; place = Some (Byte b) }))
+      finished-wanting b e = goes (Some b) (sym e)
 
       module _ (e : demanded partial (missing ts 256 0) ≡ None) (most : ℕ) (is : r.table ≡ most)
-          (p : Packed) (P : PackedAs ts most rs tb p rs' tb') where
+          (p : Option ℕ) (P : PackedAs ts most rs tb p rs' tb') where
         last-test : finish partial r ts ≡ cond (leb (table_words ts) most) (accepted ts) (refused 21 nowhere)
         last-test = goes None e ∙ ap (λ (n : ℕ). cond (leb (table_words ts) n) (accepted ts) (refused 21 nowhere)) is
 
-        finished-full : p ≡ NoRoom → As Finished.NoTable
+        finished-full : p ≡ None → As (finished_of None)
         unfolding answer_for
         finished-full q = last-test ∙ go (leb (table_words ts) most) (sym q ∙ P.answer)
           where
-            go : (c : Bool) → NoRoom ≡ cond c (Words (table_words ts)) NoRoom → cond c (accepted ts) (refused 21 nowhere)
+            go : (c : Bool) → None ≡ cond c (Some (table_words ts)) None → cond c (accepted ts) (refused 21 nowhere)
                 ≡ refused 21 nowhere
             go true z = let y : ◌≡◌ {A = ℕ} 0 1 = cc in absurd (omega arith)
             go false z = refl
 
-        finished-packs : (n : ℕ) → p ≡ Words n → 65537 ≤ length os → st.previous < 65536
-            → os' ≡ set_offsets os st.previous 65536 st.used → As (Finished.Packed n)
+        finished-packs : (n : ℕ) → p ≡ Some n → 65537 ≤ length os → st.previous < 65536
+            → os' ≡ set_offsets os st.previous 65536 st.used → As (Ok n)
         unfolding answer_for
         finished-packs n q long small eo =
             let (a, b) = go (leb (table_words ts) most) (sym q ∙ P.answer) in
             (last-test ∙ a, b, eo ∙ offsets-all B long small, P.roots n q, P.table n q)
           where
-            go : (c : Bool) → Words n ≡ cond c (Words (table_words ts)) NoRoom → (cond c (accepted ts) (refused 21 nowhere) ≡ accepted ts)
+            go : (c : Bool) → Some n ≡ cond c (Some (table_words ts)) None → (cond c (accepted ts) (refused 21 nowhere) ≡ accepted ts)
                 × (n ≡ table_words ts)
             go true z = (refl, cc)
             go false z = let y : ◌≡◌ {A = ℕ} 0 1 = cc in absurd (omega arith)
 
       -- what follows the packing
-      pub finished_as_stated : demanded partial (missing ts 256 0) ≡ None → (most : ℕ) → r.table ≡ most → (p : Packed)
+      pub finished_as_stated : demanded partial (missing ts 256 0) ≡ None → (most : ℕ) → r.table ≡ most → (p : Option ℕ)
           → PackedAs ts most rs tb p rs' tb' → 65537 ≤ length os → st.previous < 65536
-          → os' ≡ set_offsets os st.previous 65536 st.used → (f : Finished) → f ≡ finished_of p → As f
-      finished_as_stated e most is (Words n) P long small eo f ef = subst As (sym ef)
-          (finished-packs e most is (Words n) P n refl long small eo)
-      finished_as_stated e most is NoRoom P long small eo f ef = subst As (sym ef) (finished-full e most is NoRoom P refl)
+          → os' ≡ set_offsets os st.previous 65536 st.used → (f : Result ℕ LoadError) → f ≡ finished_of p → As f
+      finished_as_stated e most is (Some n) P long small eo f ef = subst As (sym ef)
+          (finished-packs e most is (Some n) P n refl long small eo)
+      finished_as_stated e most is None P long small eo f ef = subst As (sym ef) (finished-full e most is None P refl)
 
 -- cells past the fixed lengths, where offsets were written up to the last
 pub end_kept : {s : List ℤ} {os os' rs rs' : List ℕ} (previous total : ℕ) → previous < 65536 → os' ≡ set_offsets os previous 65536 total
