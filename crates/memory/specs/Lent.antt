@@ -1,5 +1,5 @@
 -- Lent vocabulary memory as the definitions see it: its five lists of cells. Assumes nothing.
-use Rattle.std.specs.Prelude.{◌≡◌}
+use Rattle.std.specs.Prelude.{◌≡◌, length}
 use Rattle.spec.specs.Memory.{memory}
 use Rattle.spec.specs.Memory as spec
 use Rattle.memory.specs.declared.Memory.{Memory}
@@ -13,10 +13,10 @@ cells_of m = memory m.single.now m.offsets.now m.blob.now m.roots.now m.table.no
 abbrev pub cells_in : MemoryMut → spec.Memory
 cells_in m = memory m.single.now m.offsets.now m.blob.now m.roots.now m.table.now
 
--- it is still the same five slices
+-- it is still the same five slices, of the same lengths
 pub record SameSlices (old new : MemoryMut) : Type 0 where
-  pub single : new.single.ghost_name ≡ old.single.ghost_name
-  pub offsets : new.offsets.ghost_name ≡ old.offsets.ghost_name
-  pub blob : new.blob.ghost_name ≡ old.blob.ghost_name
-  pub roots : new.roots.ghost_name ≡ old.roots.ghost_name
-  pub table : new.table.ghost_name ≡ old.table.ghost_name
+  pub single : (new.single.ghost_name ≡ old.single.ghost_name) × (length new.single.now ≡ length old.single.now)
+  pub offsets : (new.offsets.ghost_name ≡ old.offsets.ghost_name) × (length new.offsets.now ≡ length old.offsets.now)
+  pub blob : (new.blob.ghost_name ≡ old.blob.ghost_name) × (length new.blob.now ≡ length old.blob.now)
+  pub roots : (new.roots.ghost_name ≡ old.roots.ghost_name) × (length new.roots.now ≡ length old.roots.now)
+  pub table : (new.table.ghost_name ≡ old.table.ghost_name) × (length new.table.now ≡ length old.table.now)
