@@ -3,14 +3,27 @@ use mathlib.Core.Path.{◌≡◌, refl}
 use mathlib.Core.Bool.{Bool, true, false, ◌&&◌}
 use Rattle.std.specs.Prelude.{None, Some}
 use mathlib.Core.List.{List}
-use Prim.Native.Nat.{ℕ, suc, ◌+◌, ◌≤◌, ◌<◌}
+use Prim.Native.Nat.{ℕ, suc, ◌+◌, ◌-◌, ◌≤◌, ◌<◌}
+use native.Mathlib.Numerals.{add-one}
 use native.Mathlib.Omega.{arith}
-use lib.ListN.{length}
+use lib.ListN.{length, take, drop, length-drop}
+use lib.Seq.{take_all}
 use lib.Dec.{ltb}
 use borrow.Author.Tests.{lt-ltb, le-ltb}
 use Rattle.spec.specs.Check.{pass, refuse, given, need}
 use Rattle.spec.specs.Utf8.{blank}
 use Rattle.spec.specs.Line.{first_space, last_space, parted, placed, fields}
+
+-- the parts as the code takes them
+pub taken : (first last : ℕ) (line : List ℕ) →
+    record {
+      id = take first line;
+      literal = take (last - (first + 1)) (drop (first + 1) line);
+      length = take (length line - (last + 1)) (drop (last + 1) line);
+    } ≡ parted first last line
+taken first last line =
+    let z = take_all (length line - (last + 1)) (drop (last + 1) line) (omega (arith, length-drop (last + 1) line)) in
+    rw (z, add-one first, add-one last)
 
 pub is_blank : (line : List ℕ) → blank line ≡ true → fields line ≡ refuse 3
 unfolding fields need

@@ -1,51 +1,42 @@
--- The first and the last space of a line, read from a place of it, and that they stand in the line. Assumes nothing.
-use mathlib.Core.Path.{◌≡◌, refl, ap, ◌∙◌}
+-- The first and the last space of a line and the first LF of a text, as the library's searches find them. Assumes nothing.
+use mathlib.Core.Path.{◌≡◌, refl, ap, ◌∙◌, sym}
 use mathlib.Core.Bool.{Bool, true, false, cond}
-use Rattle.std.specs.Prelude.{Option, None, Some}
+use Rattle.std.specs.Prelude.{Option, None, Some, MatchOption}
 use Rattle.std.specs.Option.{option_map, option_or}
+use Rattle.std.specs.List.{position, position_or_len, position_from}
+use Rattle.std.proofs.lemmas.Iterator.Adapters.{position_from-zero}
+use Rattle.std.proofs.lemmas.List.Recursion.{is_position_or_len}
 use Rattle.laws.specs.OptionLaws.{none-ne-some, some-injective}
-use mathlib.Core.List.{List, [], ◌∷◌, ◌++◌}
-use Prim.Native.Nat.{ℕ, suc, ◌+◌, ◌-◌, ◌≤◌, ◌<◌}
+use mathlib.Core.List.{List, [], ◌∷◌}
+use Prim.Native.Nat.{ℕ, zero, suc, ◌+◌, ◌≤◌, ◌<◌}
 use native.Mathlib.Nat.{add-zero, zero-add}
-use native.Mathlib.Numerals.{add-one}
 use native.Mathlib.Omega.{arith}
-use lib.ListN.{length, take, drop, get_or, drop_of_length-le}
-use lib.Seq.{drop-cons, take-suc, take-length, length-take-le}
-use lib.Dec.{eqb}
-use borrow.Author.Tests.{eq-eqb, ne_eqb}
-use Rattle.spec.specs.Line.{space, first_space, last_space}
+use lib.ListN.{length, get_or}
+use lib.Dec.{eqb, ltb}
+use borrow.Author.Tests.{eq-eqb, ne_eqb, ltb-true, ltb-false}
+use Rattle.spec.specs.Line.{lf, space, first_space, last_space}
+use Rattle.laws.specs.LineWalk.{before_lf}
 
--- ── The first ────────────────────────────────────────────────────────
+-- ── The first space ──────────────────────────────────────────────────
 
--- a place behind the first i bytes, as a place of the whole
-unfoldable pub behind : ℕ → Option ℕ → Option ℕ
-behind i o = option_map (λ k. i + k) o
-
-pub first-start : (line : List ℕ) → behind 0 (first_space (drop 0 line)) ≡ first_space line
-unfolding behind
-first-start line = go (first_space line)
+-- the first space of a line that stands behind i bytes
+from : (i : ℕ) (s : List ℕ) → position_from (λ b. eqb b space) i s ≡ option_map (λ k. i + k) (first_space s)
+unfolding first_space
+from i [] = refl
+from i (b ∷ s) = go (eqb b space) (first_space s) (from (i + 1) s)
   where
-    go : (o : Option ℕ) → option_map (λ k. 0 + k) o ≡ o
-    go None = refl
-    go (Some k) = ap {B = Option ℕ} Some (zero-add k)
+    go : (c : Bool) (o : Option ℕ) → position_from (λ b. eqb b space) (i + 1) s ≡ option_map (λ k. i + 1 + k) o
+        → cond c (Some i) (position_from (λ b. eqb b space) (i + 1) s) ≡ option_map (λ k. i + k) (cond c (Some 0) (option_map suc o))
+    go true o e = ap {B = Option ℕ} Some (sym (add-zero i))
+    go false None e = e
+    go false (Some k) e = let z : i + 1 + k ≡ i + suc k = omega arith in e ∙ ap {B = Option ℕ} Some z
 
-module _ (line : List ℕ) (i : ℕ) where
-  pub first-here : i < length line → get_or line i 0 ≡ space → behind i (first_space (drop i line)) ≡ Some i
-  unfolding behind first_space
-  first-here h e = rw (drop-cons line i 0 h, eq-eqb (get_or line i 0) space e, add-zero)
+start : (o : Option ℕ) → option_map (λ k. 0 + k) o ≡ o
+start None = refl
+start (Some k) = ap {B = Option ℕ} Some (zero-add k)
 
-  pub first-later : i < length line → (get_or line i 0 ≡ space → ⊥)
-      → behind i (first_space (drop i line)) ≡ behind (i + 1) (first_space (drop (i + 1) line))
-  unfolding behind first_space
-  first-later h n = rw (add-one, drop-cons line i 0 h, ne_eqb (get_or line i 0) space n) (go (first_space (drop (suc i) line)))
-    where
-      go : (o : Option ℕ) → option_map (λ k. i + k) (option_map suc o) ≡ option_map (λ k. suc i + k) o
-      go None = refl
-      go (Some k) = let e : i + suc k ≡ suc i + k = omega arith in ap {B = Option ℕ} Some e
-
-  pub first-none : length line ≤ i → behind i (first_space (drop i line)) ≡ None
-  unfolding behind first_space
-  first-none h = rw (drop_of_length-le line h)
+pub first_position : (line : List ℕ) → position (λ b. eqb b space) line ≡ first_space line
+first_position line = position_from-zero (λ b. eqb b space) line ∙ from 0 line ∙ start (first_space line)
 
 pub first-lt : (line : List ℕ) (k : ℕ) → first_space line ≡ Some k → k < length line
 unfolding first_space
@@ -58,41 +49,32 @@ first-lt (b ∷ s) k e = go (eqb b space) (first_space s) e (first-lt s)
     go false None q f = absurd (none-ne-some k q)
     go false (Some j) q f = let z = some-injective _ _ q in let l = f j refl in omega arith
 
--- ── The last ─────────────────────────────────────────────────────────
+-- ── The last space ───────────────────────────────────────────────────
 
-last_snoc : (s : List ℕ) (b : ℕ) → last_space (s ++ b ∷ []) ≡ cond (eqb b space) (Some (length s)) (last_space s)
+-- r is the last place of a space, none if there is none
+abbrev pub IsLast : List ℕ → Option ℕ → Type 0
+IsLast s r =
+    MatchOption r ((k : ℕ) → k < length s → get_or s k 0 ≡ space → ⊥)
+    (λ i. (i < length s) × (get_or s i 0 ≡ space) × ((k : ℕ) → i < k → k < length s → get_or s k 0 ≡ space → ⊥))
+
+last_none : (s : List ℕ) → ((k : ℕ) → k < length s → get_or s k 0 ≡ space → ⊥) → last_space s ≡ None
 unfolding last_space
-last_snoc [] b = refl
-last_snoc (a ∷ s) b = rw (last_snoc s b) (go (eqb b space))
-  where
-    go : (c : Bool)
-        → option_or (option_map suc (cond c (Some (length s)) (last_space s))) (cond (eqb a space) (Some 0) None)
-        ≡ cond c (Some (suc (length s))) (option_or (option_map suc (last_space s)) (cond (eqb a space) (Some 0) None))
-    go true = refl
-    go false = refl
+last_none [] h = refl
+last_none (b ∷ s) h =
+    rw (last_none s (λ k l. h (suc k) (omega arith)), ne_eqb b space (h 0 (omega arith)))
 
-pub last_start : (line : List ℕ) → last_space (take (length line) line) ≡ last_space line
-last_start line = ap last_space (take-length line)
-
-module _ (line : List ℕ) (i : ℕ) (h : 0 < i) (k : i ≤ length line) where
-  last-cut : last_space (take i line) ≡ cond (eqb (get_or line (i - 1) 0) space) (Some (i - 1)) (last_space (take (i - 1) line))
-  last-cut =
-      let e : i ≡ suc (i - 1) = omega arith in
-      ap (λ (z : ℕ). last_space (take z line)) e
-      ∙ ap last_space (take-suc line (i - 1) 0 (omega arith))
-      ∙ last_snoc (take (i - 1) line) (get_or line (i - 1) 0)
-      ∙ ap (λ (z : ℕ). cond (eqb (get_or line (i - 1) 0) space) (Some z) (last_space (take (i - 1) line)))
-      (length-take-le (i - 1) line (omega arith))
-
-  pub last-here : get_or line (i - 1) 0 ≡ space → last_space (take i line) ≡ Some (i - 1)
-  last-here e = last-cut ∙ rw (eq-eqb (get_or line (i - 1) 0) space e)
-
-  pub last-before : (get_or line (i - 1) 0 ≡ space → ⊥) → last_space (take i line) ≡ last_space (take (i - 1) line)
-  last-before n = last-cut ∙ rw (ne_eqb (get_or line (i - 1) 0) space n)
-
-pub last_none : (line : List ℕ) (i : ℕ) → i ≤ 0 → last_space (take i line) ≡ None
+last_some : (s : List ℕ) (i : ℕ) → i < length s → get_or s i 0 ≡ space
+    → ((k : ℕ) → i < k → k < length s → get_or s k 0 ≡ space → ⊥) → last_space s ≡ Some i
 unfolding last_space
-last_none line i h = let e : i ≡ 0 = omega arith in rw e
+last_some [] i h e n = absurd (omega arith)
+last_some (b ∷ s) zero h e n =
+    rw (last_none s (λ k l. n (suc k) (omega arith) (omega arith)), eq-eqb b space e)
+last_some (b ∷ s) (suc i) h e n =
+    rw (last_some s i (omega arith) e (λ k l m. n (suc k) (omega arith) (omega arith)))
+
+pub is_last : (s : List ℕ) (r : Option ℕ) → IsLast s r → r ≡ last_space s
+is_last s None h = sym (last_none s h)
+is_last s (Some i) h = sym (last_some s i h.0 h.1 h.2)
 
 pub last_lt : (line : List ℕ) (k : ℕ) → last_space line ≡ Some k → k < length line
 unfolding last_space
@@ -105,3 +87,34 @@ last_lt (b ∷ s) k e = go (eqb b space) (last_space s) e (last_lt s)
     go false None q f = absurd (none-ne-some k q)
     go true (Some j) q f = let z = some-injective _ _ q in let l = f j refl in omega arith
     go false (Some j) q f = let z = some-injective _ _ q in let l = f j refl in omega arith
+
+-- ── The first LF ─────────────────────────────────────────────────────
+
+before : (s : List ℕ) → before_lf s ≡ position_or_len (λ b. eqb b lf) s
+unfolding before_lf
+before = is_position_or_len before_lf (λ b. eqb b lf) refl (λ b s. go (eqb b lf) (before_lf s))
+  where
+    go : (c : Bool) (n : ℕ) → cond c 0 (suc n) ≡ cond c 0 (1 + n)
+    go true n = refl
+    go false n = omega arith
+
+-- where it stands, if there is one
+pub lf-found : (s : List ℕ) (n : ℕ) → Some n ≡ position (λ b. eqb b lf) s → (before_lf s ≡ n) × (n < length s)
+lf-found s n e = rw (before s) (go (ltb (position_or_len (λ b. eqb b lf) s) (length s)) refl e)
+  where
+    m : ℕ
+    m = position_or_len (λ b. eqb b lf) s
+
+    go : (c : Bool) → ltb m (length s) ≡ c → Some n ≡ cond c (Some m) None → (m ≡ n) × (n < length s)
+    go true q e = let z = some-injective _ _ e in let l = ltb-true m (length s) q in (sym z, omega arith)
+    go false q e = absurd (none-ne-some n (sym e))
+
+pub lf-none : (s : List ℕ) → None ≡ position (λ b. eqb b lf) s → length s ≤ before_lf s
+lf-none s e = rw (before s) (go (ltb (position_or_len (λ b. eqb b lf) s) (length s)) refl e)
+  where
+    m : ℕ
+    m = position_or_len (λ b. eqb b lf) s
+
+    go : (c : Bool) → ltb m (length s) ≡ c → None ≡ cond c (Some m) None → length s ≤ m
+    go true q e = absurd (none-ne-some m e)
+    go false q e = ltb-false m (length s) q

@@ -2,167 +2,114 @@
 // whoever reads a line takes them one by one, since refusals 7 to 10 stand between them.
 #![tactic(auto)]
 
-ghost use Rattle.std.specs.Prelude.{◌≡◌, ◌+◌, ◌-◌, ◌≤◌, length, take, drop};
+ghost use Rattle.std.specs.Prelude.{◌≡◌, ◌==◌, position, option_map, IfOk, drop};
 ghost use Rattle.spec.specs.Check.{pass, given};
 ghost use Rattle.spec.specs.Digits.{digits};
 ghost use Rattle.spec.specs.Line.{less_cr, first_space, last_space, fields};
-ghost use Rattle.laws.specs.LineWalk.{before_lf, next_line};
-ghost use Rattle.line.specs.Answers.{line_at, space_of, fields_of, Within, id_of, length_of};
+ghost use Rattle.laws.specs.LineWalk.{next_line};
+ghost use Rattle.refusals.specs.Numbers.{checked};
+ghost use Rattle.line.specs.Answers.{told, line_at, fields_of, NoneEmpty};
 
-// A line of a text, up to `end`, and where the next one starts; or that there is none.
+use refusals::Refusal;
+
+/// A line of a text, and where in the text the next one starts.
 #[derive(Clone, Copy)]
-pub enum NextLine {
-    Line { end: usize, next: usize },
-    Nothing,
+pub struct Line<'a> {
+    pub bytes: &'a [u8],
+    pub next: usize,
 }
 
-// The first LF of `text` from `from` on, or the text's end.
-fn find_lf(text: &[u8], from: usize) -> usize
-    requires { from ≤ length text.now }
-    ensures { result ≡ from + before_lf (drop from text.now) }
+// The line without its last byte, if that is a CR.
+#[tactic(auto, using(crate::proofs::LineTurns::cr_cases))]
+fn less_cr(line: &[u8]) -> &[u8]
+    ensures { result.now ≡ less_cr line.now }
 {
-    let mut i = from;
-    while i < text.len() {
-        if text[i] == b'\n' {
-            return i;
-        }
-        i += 1;
+    match line {
+        [less @ .., b'\r'] => less,
+        _ => line,
     }
-    i
 }
 
-// The end of the line from `from` to `end` without its last byte, if that is a CR.
-fn less_cr(text: &[u8], from: usize, end: usize) -> usize
-    requires { (from ≤ end) × (end ≤ length text.now) }
-    ensures { result ≡ from + length (less_cr (take (end - from) (drop from text.now))) }
+// The place of the first `byte`.
+fn find(bytes: &[u8], byte: u8) -> Option<usize>
+    ensures { result ≡ position (λ b. b == byte) bytes.now }
 {
-    if from < end {
-        if text[end - 1] == b'\r' {
-            return end - 1;
-        }
-    }
-    end
+    bytes.iter().position(|&b| b == byte)
 }
 
-// The line of `text` that starts at `from`, without its LF and the CR before that.
-pub fn next_line(text: &[u8], from: usize) -> NextLine
-    ensures { result ≡ line_at from (next_line (drop from text.now)) }
+/// The line of `text` that starts at `from`, without its LF and the CR before that; none if the text ends there.
+pub fn next_line(text: &[u8], from: usize) -> Option<Line<'_>>
+    ensures { option_map told result ≡ line_at text.now from (next_line (drop from text.now)) }
 {
     if text.len() <= from {
-        return NextLine::Nothing;
+        return None;
     }
-    let lf = find_lf(text, from);
-    let end = less_cr(text, from, lf);
-    if text.len() <= lf {
-        return NextLine::Line { end, next: lf };
-    }
-    NextLine::Line {
-        end: less_cr(text, from, end),
-        next: lf + 1,
+    let rest = &text[from..];
+    match find(rest, b'\n') {
+        Some(lf) => Some(Line {
+            bytes: less_cr(less_cr(&rest[..lf])),
+            next: from + lf + 1,
+        }),
+        None => Some(Line {
+            bytes: less_cr(rest),
+            next: text.len(),
+        }),
     }
 }
 
-// A place in a line, or that there is none.
-#[derive(Clone, Copy)]
-pub enum Space {
-    At(usize),
-    Nowhere,
-}
-
-// The first space of `line`.
-pub fn first_space(line: &[u8]) -> Space
-    ensures { space_of result ≡ first_space line.now }
+/// The place of the first space of `line`.
+pub fn first_space(line: &[u8]) -> Option<usize>
+    ensures { result ≡ first_space line.now }
 {
-    let mut i = 0;
-    while i < line.len() {
-        if line[i] == b' ' {
-            return Space::At(i);
-        }
-        i += 1;
-    }
-    Space::Nowhere
+    find(line, b' ')
 }
 
-// The last space of `line`.
-pub fn last_space(line: &[u8]) -> Space
-    ensures { space_of result ≡ last_space line.now }
+/// The place of the last space of `line`.
+pub fn last_space(line: &[u8]) -> Option<usize>
+    ensures { result ≡ last_space line.now }
 {
-    let mut i = line.len();
-    while i > 0 {
-        i -= 1;
-        if line[i] == b' ' {
-            return Space::At(i);
-        }
-    }
-    Space::Nowhere
+    line.iter().rposition(|&b| b == b' ')
 }
 
-// The fields of a line, by its first and last space: the id before the first, the literal between them, the length after the last. Or
-// why it has none: refusal 3, 4 or 5.
+/// The fields of a line: the id before its first space, the length after its last, the literal between them.
 #[derive(Clone, Copy)]
-pub enum Fields {
-    Found { first: usize, last: usize },
-    Blank,
-    NoSpace,
-    Misplaced,
+pub struct Fields<'a> {
+    pub id: &'a [u8],
+    pub literal: &'a [u8],
+    pub length: &'a [u8],
 }
 
-// The fields of `line`.
-pub fn split_fields(line: &[u8]) -> Fields
-    ensures means { fields_of line.now result ≡ fields line.now }
-    ensures within { Within line.now result }
+/// The fields of `line`, or refusal 3, 4 or 5.
+pub fn split_fields(line: &[u8]) -> Result<Fields<'_>, Refusal>
+    ensures means { checked fields_of result ≡ fields line.now }
+    ensures filled { IfOk result NoneEmpty }
 {
     if characters::is_blank(line) {
-        return Fields::Blank;
+        return Err(Refusal::BlankLine);
     }
-    let Space::At(first) = first_space(line) else {
-        return Fields::NoSpace;
-    };
-    let Space::At(last) = last_space(line) else {
-        return Fields::NoSpace;
-    };
-    if first == 0 {
-        return Fields::Misplaced;
+    let first = first_space(line).ok_or(Refusal::NoSpace)?;
+    let last = last_space(line).ok_or(Refusal::NoSpace)?;
+    if first == 0 || last <= first + 1 || line.len() <= last + 1 {
+        return Err(Refusal::MisplacedSpace);
     }
-    if last <= first + 1 {
-        return Fields::Misplaced;
-    }
-    if line.len() <= last + 1 {
-        return Fields::Misplaced;
-    }
-    Fields::Found { first, last }
+    Ok(Fields {
+        id: &line[..first],
+        literal: &line[first + 1..last],
+        length: &line[last + 1..],
+    })
 }
 
-// The id of a line, or refusal 6.
-#[derive(Clone, Copy)]
-pub enum Id {
-    Value(u32),
-    Bad,
-}
-
-// The id that the bytes before a line's first space state.
-pub fn read_id(part: &[u8]) -> Id
-    ensures { id_of result ≡ given 6 (digits 4294967295 part.now) pass }
+/// The id that the bytes before a line's first space state, or refusal 6.
+pub fn read_id(part: &[u8]) -> Result<u32, Refusal>
+    ensures { checked (λ v. v) result ≡ given 6 (digits 4294967295 part.now) pass }
 {
-    let numbers::Number::Value(v) = numbers::digits(part, 4294967295) else {
-        return Id::Bad;
-    };
-    Id::Value(v as u32)
+    let v = numbers::digits(part, 4294967295).ok_or(Refusal::BadId)?;
+    Ok(v as u32)
 }
 
-// The length that a line declares, or refusal 11.
-#[derive(Clone, Copy)]
-pub enum Length {
-    Value(u64),
-    Bad,
-}
-
-// The length that the bytes after a line's last space declare.
-pub fn read_length(part: &[u8]) -> Length
-    ensures { length_of result ≡ given 11 (digits 18446744073709551615 part.now) pass }
+/// The length that the bytes after a line's last space declare, or refusal 11.
+pub fn read_length(part: &[u8]) -> Result<u64, Refusal>
+    ensures { checked (λ v. v) result ≡ given 11 (digits 18446744073709551615 part.now) pass }
 {
-    let numbers::Number::Value(v) = numbers::digits(part, 18446744073709551615) else {
-        return Length::Bad;
-    };
-    Length::Value(v)
+    numbers::digits(part, u64::MAX).ok_or(Refusal::BadLength)
 }

@@ -1,12 +1,7 @@
 -- `line::read_length` meets its contract. Assumes nothing.
-use mathlib.Core.Path.{sym}
-use Rattle.spec.specs.Check.{given}
+use Rattle.refusals.specs.declared.Refusal.{Refusal}
+use Rattle.line.proofs.Given.{checked-given}
 use Rattle.line.proofs.read_length.Goals as goal
 
-pub returns-in_default : goal.returns-in_default
-unfolding given
-returns-in_default c = rw (sym c.in_default.ensures)
-
 pub returns : goal.returns
-unfolding given
-returns c = rw (sym c.in-Value.ensures)
+returns c = rw (c.ok_or.ensures.value, c.digits.ensures) (checked-given _ Refusal.BadLength)
