@@ -1,6 +1,5 @@
 -- The capacity that is searched, and what the code's answers say of it. Assumes nothing.
-use mathlib.Core.Path.{◌≡◌, refl, sym, ap, ◌∙◌, subst}
-use mathlib.Core.Bool.{true, false}
+use mathlib.Core.Path.{◌≡◌, sym, ap, ◌∙◌, subst}
 use mathlib.Core.List.{List, map}
 use Prim.Native.Nat.{ℕ, ◌+◌, ◌-◌, ◌*◌, ◌/◌, ◌^◌, ◌≤◌, ◌<◌, min}
 use native.Mathlib.Omega.{arith}
@@ -23,9 +22,8 @@ use Rattle.words.specs.NodeWords.{node_writes, root_word, root_words}
 use Rattle.words.proofs.Filled.{Based, nodes-are, table_padded, roots_over}
 use Rattle.packing.specs.PlaceWalk.{Through, Ended}
 use Rattle.words.specs.LayoutAnswer.{answer_for, PackedAs}
-use Rattle.packing.proofs.Walked.{ended-full, ended-open, through_based}
-use Rattle.words.specs.declared.Packed.{Packed}
-use Rattle.words.specs.declared.Packed.TheVariants.{Words, NoRoom}
+use Rattle.packing.proofs.Walked.{through_based}
+use Rattle.std.specs.Prelude.{Option, Some, None}
 use Rattle.slots.specs.declared.Front.{Front}
 
 -- ---- the words of marks that are searched
@@ -72,15 +70,12 @@ room-le t u b = omega arith
 
 -- ---- the answer
 
-not-words : {r : Packed} {n : ℕ} → r ≡ NoRoom → r ≡ Words n → ⊥
-not-words p q = let z : ◌≡◌ {A = ℕ} 0 1 = cc in omega arith
-
-past-answer : (ts : List Token) (cap : ℕ) (rs t rs' t' : List ℕ) → cap < table_words ts → PackedAs ts cap rs t NoRoom rs' t'
+past-answer : (ts : List Token) (cap : ℕ) (rs t rs' t' : List ℕ) → cap < table_words ts → PackedAs ts cap rs t None rs' t'
 unfolding answer_for
 past-answer ts cap rs t rs' t' h = record {
   answer = sym (no_case _ _ (lt-leb (table_words ts) cap h));
-  table = λ n e. absurd (not-words refl e);
-  roots = λ n e. absurd (not-words refl e);
+  table = λ n e. cc;
+  roots = λ n e. cc;
 }
 
 words-pos : (ts : List Token) → 0 < table_words ts
@@ -93,10 +88,10 @@ module _ (ts : List Token) (v : Valid ts) (cap made w : ℕ) (rs : List ℕ) (m�
       → Through (nodes ts) (id_of ts) (puts ts) m at end → w ≡ 256 * (1 + at.high)
       → t' ≡ fold write (replicate (length t) 0) (node_writes (see m) made (made - 1) 1)
       → rs' ≡ root_words (root_word (see m) made) rs
-      → PackedAs ts cap rs t (Words w) rs' t'
+      → PackedAs ts cap rs t (Some w) rs' t'
   unfolding answer_for table_words words
   fits-answer S em hr ht hc T ew et er = record {
-    answer = ap Words is ∙ sym (yes_case _ _ (le-leb (table_words ts) cap fit));
+    answer = ap Some is ∙ sym (yes_case _ _ (le-leb (table_words ts) cap fit));
     table = λ n e. et ∙ ap (λ (k : ℕ). fold write (replicate (length t) 0) (node_writes (see m) k (k - 1) 1)) em
         ∙ ap (fold write (replicate (length t) 0)) (nodes-are ts m D) ∙ table_padded ts v (length t) (omega (arith, fit));
     roots = λ n e. er ∙ ap (λ (k : ℕ). root_words (root_word (see m) k) rs) em
@@ -113,7 +108,7 @@ module _ (ts : List Token) (v : Valid ts) (cap made w : ℕ) (rs : List ℕ) (m�
       fit = let h = T.room in omega arith
 
 -- the cells past the roots stay as they were
-roots_behind : (f : ℕ → ℕ) (rs rs' : List ℕ) → 65536 ≤ length rs → rs' ≡ root_words f rs → RootsKept rs rs'
+pub roots_behind : (f : ℕ → ℕ) (rs rs' : List ℕ) → 65536 ≤ length rs → rs' ≡ root_words f rs → RootsKept rs rs'
 unfolding root_words
 roots_behind f rs rs' h e =
     record {
@@ -127,37 +122,30 @@ pub few : (b : ℕ) {high end : ℕ} → high * 4 + 4 ≤ end → end * 64 ≡ m
 few b h e = omega arith
 
 module _ (made end t u b : ℕ) (ee : end * 64 ≡ min (table_room t u b) (256 * 16777215)) (m : Nodes) (rs ta : List ℕ) where
-  abbrev pub Answers : Packed → List ℕ → List ℕ → Type 0
+  -- what the code promises
+  abbrev pub Answers : Option ℕ → List ℕ → List ℕ → Type 0
   Answers r rs' ta' =
-      ((ts : List Token) → Valid ts → Stands ts rs m → made ≡ node_count ts → PackedAs ts (table_room t u b) rs ta r rs' ta')
-      × RootsKept rs rs'
-
-  past : (r : Packed) → r ≡ NoRoom
-      → ((ts : List Token) → Valid ts → Stands ts rs m → made ≡ node_count ts → table_room t u b < table_words ts) → Answers r rs ta
-  past r er h = (
-    (λ ts v S em. subst (λ (x : Packed). PackedAs ts (table_room t u b) rs ta x rs ta) (sym er)
-        (past-answer ts (table_room t u b) rs ta rs ta (h ts v S em))),
-    record { behind = refl },
-  )
+      (ts : List Token) → Valid ts → Stands ts rs m → made ≡ node_count ts → PackedAs ts (table_room t u b) rs ta r rs' ta'
 
   -- no whole block
-  pub no_block : (r : Packed) → r ≡ NoRoom → end ≡ 0 → Answers r rs ta
-  no_block r er z = past r er (λ ts v S em. let c = end-zero t u b end ee z in let w = words-pos ts in omega arith)
+  pub no_block : end ≡ 0 → Answers None rs ta
+  no_block z = λ ts v S em. past-answer ts (table_room t u b) rs ta rs ta
+      (let c = end-zero t u b end ee z in let w = words-pos ts in omega arith)
 
-  module _ (zs : Nodes) (front : Front) (placed : (ts : List Token) (rs : List ℕ) → Valid ts → Stands ts rs m → made ≡ node_count ts
-      → Ended (nodes ts) (id_of ts) (puts ts) zs front end) where
+  module _ (zs : Nodes) where
+    abbrev pub Placing : Option Front → Type 0
+    Placing front = (ts : List Token) (rs : List ℕ) → Valid ts → Stands ts rs m → made ≡ node_count ts
+        → Ended (nodes ts) (id_of ts) (puts ts) zs front end
+
     -- a node found no slot
-    pub no_slot : (r : Packed) → r ≡ NoRoom → front.full ≡ true → Answers r rs ta
-    no_slot r er y = past r er (λ ts v S em. end-past t u b end ee ts v (ended-full (placed ts rs v S em) y))
+    pub no_slot : Placing None → Answers None rs ta
+    no_slot placed = λ ts v S em. past-answer ts (table_room t u b) rs ta rs ta (end-past t u b end ee ts v (placed ts rs v S em))
 
     -- all nodes have their words; tc is the table with zeros
-    pub all-put : (r : Packed) (rs' tc ta' : List ℕ) → r ≡ Words (256 * (1 + front.high)) → front.full ≡ false → t ≡ length ta
+    pub all-put : (front : Front) → Placing (Some front) → (w : ℕ) (rs' tc ta' : List ℕ) → w ≡ 256 * (1 + front.high) → t ≡ length ta
         → 65536 ≤ length rs → tc ≡ replicate (length ta) 0 → ta' ≡ fold write tc (node_writes (see zs) made (made - 1) 1)
-        → rs' ≡ root_words (root_word (see zs) made) rs → Answers r rs' ta'
-    all-put r rs' tc ta' er y et hr ec etable eroots = (
-      (λ ts v S em. subst (λ (x : Packed). PackedAs ts (table_room t u b) rs ta x rs' ta') (sym er)
-          (fits-answer ts v (table_room t u b) made (256 * (1 + front.high)) rs m ta zs ta' rs' front end S em hr
-          (subst (λ (x : ℕ). table_room t u b ≤ x) et (room-le t u b)) (end-room t u b end ee) (ended-open (placed ts rs v S em) y) refl
-          (etable ∙ ap (λ (x : List ℕ). fold write x (node_writes (see zs) made (made - 1) 1)) ec) eroots)),
-      roots_behind (root_word (see zs) made) rs rs' hr eroots,
-    )
+        → rs' ≡ root_words (root_word (see zs) made) rs → Answers (Some w) rs' ta'
+    all-put front placed w rs' tc ta' ew et hr ec etable eroots = λ ts v S em.
+        fits-answer ts v (table_room t u b) made w rs m ta zs ta' rs' front end S em hr
+        (subst (λ (x : ℕ). table_room t u b ≤ x) et (room-le t u b)) (end-room t u b end ee) (placed ts rs v S em) ew
+        (etable ∙ ap (λ (x : List ℕ). fold write x (node_writes (see zs) made (made - 1) 1)) ec) eroots

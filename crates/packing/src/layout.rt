@@ -5,71 +5,61 @@ ghost use Rattle.laws.specs.Fill.{write};
 ghost use Rattle.nodes.specs.Run.{room, see};
 ghost use Rattle.words.specs.NodeWords.{child_writes, node_writes, root_word, root_words};
 
-use cells::one_less;
 use nodes::Node;
 
-// The words of the children of a node with this base, each at base XOR label; head is the first child.
+/// The words of the children of a node with this base, each at base XOR label; head is the first child.
 pub fn put_children(table: &mut [u64], nodes: &[Node], made: u32, base: usize, head: u32)
     requires { made ≤ room nodes.now }
     ensures { table.new
         ≡ fold write table.old (child_writes (see nodes.now) made base 256 head) }
 {
     let mut c = head;
-    let mut fuel: u32 = 256;
-    while 0 < fuel {
+    for _ in 0..256u32 {
         if c == 0 {
             return;
         }
         if made <= c {
             return;
         }
-        let n = trie::fetch(nodes, c);
+        let n = nodes[c as usize];
         words::put_child(table, base, n);
         c = n.next;
-        fuel = one_less(fuel);
     }
 }
 
-// The number after i, of those below n.
-pub fn after(i: u32, n: u32) -> u32
-    requires { i < n }
-    ensures { result ≡ i + 1 }
-{
-    i + 1
-}
-
-// The words of all children.
+/// The words of all children.
 pub fn put_words(table: &mut [u64], nodes: &[Node], made: u32)
     requires { (1 ≤ made) × (made ≤ room nodes.now) }
     ensures { table.new
         ≡ fold write table.old (node_writes (see nodes.now) made (made - 1) 1) }
 {
-    let mut i: u32 = 1;
-    while i < made {
-        let n = trie::fetch(nodes, i);
-        put_children(table, nodes, made, cells::u32_to_usize(n.tail), n.head);
-        i = after(i, made);
+    for i in 1..made {
+        let n = nodes[i as usize];
+        put_children(table, nodes, made, n.tail as usize, n.head);
     }
 }
 
-pub fn next_root(i: usize) -> usize
-    requires { i < 65536 }
-    ensures { result ≡ i + 1 }
+// The word of a root that holds a node's number; 0 if it holds none of those made.
+fn word_of_root(root: u64, nodes: &[Node], made: u32) -> u64
+    requires { made ≤ room nodes.now }
+    ensures { result ≡ root_word (see nodes.now) made root }
 {
-    i + 1
+    if root == 0 {
+        return 0;
+    }
+    if u64::from(made) <= root {
+        return 0;
+    }
+    words::root_word_of(nodes[root as usize])
 }
 
-// Each of the 65,536 roots becomes the word of its node.
+/// Each of the 65,536 roots becomes the word of its node.
 pub fn put_roots(roots: &mut [u64], nodes: &[Node], made: u32)
     requires { (1 ≤ made) × (65536 ≤ length roots.old) × (made ≤ room nodes.now) }
     ensures { roots.new
         ≡ root_words (root_word (see nodes.now) made) roots.old }
 {
-    let mut i: usize = 0;
-    while i < 65536 {
-        let at = words::root_number(words::word_at(roots, i), made);
-        let n = trie::fetch(nodes, at);
-        words::put_word(roots, i, words::root_word_of(n, at));
-        i = next_root(i);
+    for i in 0..65536 {
+        roots[i] = word_of_root(roots[i], nodes, made);
     }
 }

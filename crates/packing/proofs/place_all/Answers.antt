@@ -1,5 +1,5 @@
--- `packing::place_all` meets its contract: the walk begins in order, from marks and cursors that are zero. Assumes nothing.
-use mathlib.Core.Path.{refl}
+-- The walk begins in order, from marks and cursors that are zero.
+use Rattle.std.proofs.Common.{refl}
 use Rattle.packing.proofs.Chained.{all_placed}
 use Rattle.packing.proofs.place_all.Goals as goal
 
@@ -7,5 +7,5 @@ pub returns-clause-stands : goal.returns-clause-stands
 returns-clause-stands c =
     let a = c.args in
     all_placed a.nodes.now c.thread_all-first.new.nodes c.place_chain.new.nodes a.made a.end c.thread_all-first.result a.used.now
-    a.bases.now _ _ _ c.place_chain.result c.requires.2.some c.thread_all-first.ensures.stands c.clear_u64.ensures
-    c.clear_u64-2.ensures refl c.place_chain.ensures.stands
+    a.bases.now _ _ _ c.place_chain.result c.requires.2.some c.thread_all-first.ensures.stands (c.fill.ensures.after (λ y e. e))
+    (c.fill-2.ensures.after (λ y e. e)) refl c.place_chain.ensures.stands

@@ -1,26 +1,51 @@
--- `packing::place_chain` meets its contract: each way to leave the loop gives what the whole promises. Assumes nothing.
-use Rattle.packing.proofs.Chained.{at-start, at_none, at_out, at_fuel, at-full, goes_on}
+-- Each way to leave the loop gives what the whole promises.
+use Rattle.std.proofs.Common.{◌≡◌, ℕ, ◌+◌, ◌-◌, ◌*◌, ◌<◌, Some, sym, ap, subst, ◌∙◌, arith}
+use Rattle.spec.specs.Layout.{words}
+use Rattle.nodes.specs.declared.Node.{Node}
+use Rattle.nodes.proofs.NodeRun.{see-is}
+use Rattle.slots.specs.Going.{Within}
+use Rattle.packing.specs.PlaceWalk.{Amid, Turned}
+use Rattle.packing.proofs.Chained.{at_none, at_out, at_fuel, at-full, goes_on}
 use Rattle.packing.proofs.place_chain.Goals as goal
 
-pub loop-fuel-init : goal.loop-fuel-init
-loop-fuel-init c = at-start c.requires.1 c.requires.4
-
 pub returns-then-node-eq0-clause-stands : goal.returns-then-node-eq0-clause-stands
-returns-then-node-eq0-clause-stands c = (at_none c.loop-fuel.invariant c.if-node-eq0.true).0
+returns-then-node-eq0-clause-stands c = at_none c.loop.invariant.along c.if-node-eq0.true
 
 pub returns-then-made-node-clause-stands : goal.returns-then-made-node-clause-stands
-returns-then-made-node-clause-stands c = (at_out c.loop-fuel.invariant c.if-made-node.true).0
+returns-then-made-node-clause-stands c = at_out c.loop.invariant.along c.if-made-node.true
 
-pub returns-then-front-clause-stands : goal.returns-then-front-clause-stands
-returns-then-front-clause-stands c =
-    let turn = c.place_node-front.ensures in
-    (at-full c.loop-fuel.invariant c.if-node-eq0.false (turn.stands, turn.within) c.if-front.true).0
+pub returns-in_err-front-clause-stands : goal.returns-in_err-front-clause-stands
+returns-in_err-front-clause-stands c =
+    let l = c.loop in
+    rw c.from_residual.ensures
+    (at-full l.invariant.along c.if-node-eq0.false (λ ps I goal k em z A.
+    subst (λ (end : ℕ). end * 64 < words goal) l.invariant.same.end
+    (c.in_err-front.ensures.stands ps I goal k em z
+    (subst (λ (end : ℕ). Amid ps I goal l.nodes l.marks.used.now l.marks.bases.now l.marks.cursors.now l.node k l.front end)
+    (sym l.invariant.same.end) A)))
+    c.place_node.new.nodes)
 
-pub loop-fuel-preserved : goal.loop-fuel-preserved
-loop-fuel-preserved c =
-    let turn = c.place_node-front.ensures in
-    goes_on c.loop-fuel.invariant c.if-node-eq0.false (turn.stands, turn.within) c.if-front.false c.fetch-n.result
-    c.one_less-fuel.result c.fetch-n.ensures c.one_less-fuel.ensures
+pub loop-preserved : goal.loop-preserved
+loop-preserved c =
+    let l = c.loop in
+    let v = l.invariant in
+    let t = c.in_ok-front.ensures in
+    let s = c.in_ok-front.ensures.same in
+    let left : c.args.made - (l.counter + 1) ≡ c.args.made - l.counter - 1 = omega arith in
+    record {
+      within = subst (Within c.in_ok-front.front) v.same.end t.within;
+      same = record {
+        used = s.used ∙ v.same.used;
+        bases = s.bases ∙ v.same.bases;
+        cursors = s.cursors ∙ v.same.cursors;
+        end = s.end ∙ v.same.end;
+      };
+      along = goes_on v.along c.if-node-eq0.false
+          (subst (λ (end : ℕ). Turned c.args.made l.node l.nodes l.marks.used.now l.marks.bases.now l.marks.cursors.now l.front end
+          c.place_node.new.nodes c.place_node.new.marks.used.now c.place_node.new.marks.bases.now c.place_node.new.marks.cursors.now
+          (Some c.in_ok-front.front)) v.same.end t.stands)
+          _ _ (ap (λ (n : Node). n.tail) (see-is l.nodes l.node)) left;
+    }
 
 pub returns-clause-stands : goal.returns-clause-stands
-returns-clause-stands c = (at_fuel c.loop-fuel.invariant c.loop-fuel-test.false).0
+returns-clause-stands c = at_fuel c.loop.invariant.along (omega arith)

@@ -1,11 +1,14 @@
--- The loop along the chain: what holds before each turn. Assumes nothing.
+-- The loop along the chain: what holds before each turn.
+use Rattle.std.proofs.Common.{◌-◌}
+use Rattle.slots.specs.Going.{Within}
+use Rattle.slots.specs.Lent.{SameMarks}
 use Rattle.packing.proofs.Chained.{Along}
 use Rattle.packing.proofs.place_chain.Given as goal
 
-abbrev pub invariant-loop-fuel : goal.invariant-loop-fuel
-invariant-loop-fuel l =
-    Along l.initial.nodes l.initial.used l.initial.bases l.initial.cursors l.made l.first l.fn.at l.end l.nodes l.used l.bases
-    l.cursors l.node l.front l.fuel
-
-abbrev pub decreases-loop-fuel : goal.decreases-loop-fuel
-decreases-loop-fuel l = l.fuel
+abbrev pub invariant-loop : goal.invariant-loop
+invariant-loop l = record {
+  within : Within l.front l.fn.marks.end;
+  same : SameMarks l.fn.marks l.marks;
+  along : Along l.fn.nodes l.fn.marks.used.now l.fn.marks.bases.now l.fn.marks.cursors.now l.made l.first l.fn.at l.fn.marks.end l.nodes
+      l.marks.used.now l.marks.bases.now l.marks.cursors.now l.node l.front (l.made - l.counter);
+}

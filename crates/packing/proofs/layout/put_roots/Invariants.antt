@@ -1,5 +1,4 @@
--- The loop over the roots: the first i of them are words. Assumes nothing.
-use Prim.Native.Nat.{◌-◌}
+-- The loop over the roots: the first i of them are words.
 use Rattle.nodes.specs.Run.{see}
 use Rattle.words.specs.NodeWords.{root_word}
 use Rattle.words.proofs.Roots.{Sofar}
@@ -7,6 +6,3 @@ use Rattle.packing.proofs.layout.put_roots.Given as goal
 
 abbrev pub invariant-loop-i : goal.invariant-loop-i
 invariant-loop-i l = Sofar (root_word (see l.nodes) l.made) l.initial.roots l.roots l.i
-
-abbrev pub decreases-loop-i : goal.decreases-loop-i
-decreases-loop-i l = 65536 - l.i

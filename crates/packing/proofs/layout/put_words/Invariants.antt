@@ -1,6 +1,5 @@
--- The loop over the nodes: what is still to be written from node i on leads to what was to be written at first. Assumes nothing.
-use mathlib.Core.Path.{◌≡◌}
-use Prim.Native.Nat.{◌-◌}
+-- The loop over the nodes: what is still to be written from node i on leads to what was to be written at first.
+use Rattle.std.proofs.Common.{◌≡◌, ◌-◌}
 use Rattle.spec.specs.Lists.{fold}
 use Rattle.laws.specs.Fill.{write}
 use Rattle.nodes.specs.Run.{see}
@@ -10,6 +9,3 @@ use Rattle.packing.proofs.layout.put_words.Given as goal
 abbrev pub invariant-loop-i : goal.invariant-loop-i
 invariant-loop-i l = fold write l.table (node_writes (see l.nodes) l.made (l.made - l.i) l.i)
     ≡ fold write l.initial.table (node_writes (see l.nodes) l.made (l.made - 1) 1)
-
-abbrev pub decreases-loop-i : goal.decreases-loop-i
-decreases-loop-i l = l.made - l.i
