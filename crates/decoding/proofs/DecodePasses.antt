@@ -1,30 +1,25 @@
 -- The two passes of decoding: what is known of the ids passed, and how each pass ends. Assumes nothing.
-use mathlib.Core.Path.{◌≡◌, refl, ap, sym, ◌∙◌}
-use mathlib.Core.Bool.{Bool, true, false}
-use mathlib.Core.List.{List, [], ◌∷◌, ◌++◌, append_assoc, append-nil}
-use Prim.Native.Nat.{ℕ, suc, ◌+◌, ◌-◌, ◌≤◌, ◌<◌, zero-le}
-use native.Mathlib.Omega.{arith}
-use native.Mathlib.Numerals.{add-one}
+use Rattle.std.proofs.Common.{◌≡◌, refl, ap, sym, ◌∙◌, true, false, List, [], ◌∷◌, ◌++◌, append_assoc, append-nil}
+use Rattle.std.proofs.Common.{ℕ, suc, ◌+◌, ◌-◌, ◌≤◌, ◌<◌, arith, add-one, length, take, drop, get_or, length-append, length-drop, drop-cons}
+use Prim.Native.Nat.{zero-le}
 use native.Mathlib.Nat.{sub-zero}
-use lib.Dec.{leb}
-use lib.ListN.{length, take, drop, get_or, length-append, drop_of_length-le, take-append-drop}
-use lib.Seq.{take-suc, take-add, drop-cons}
+use lib.ListN.{drop_of_length-le}
+use lib.Seq.{take-suc, take-add, take-length, take-append-add, take-append-le, take-take, length-take-le}
 use borrow.Author.Count.{below_none, below_more}
-use borrow.Author.Tests.{leb-true, leb-false}
-use Rattle.spec.specs.Lists.{each, over}
-use lib.IntN.{ℤ}
-use Rattle.spec.specs.Memory.{Memory, memory, too_short}
+use borrow.Rule.Slice.PartMut.{put_mid}
+use Rattle.std.specs.Prelude.{Result, Ok, Err}
+use Rattle.spec.specs.Lists.{each}
+use Rattle.spec.specs.Memory.{Memory, too_short}
 use Rattle.spec.specs.Encode.{refused}
 use Rattle.spec.specs.Decode.{lookup, Decoding, DecodeEnd, decode_at, decoding, decoded, complete, absent, full, decode_answer}
 use Rattle.spec.specs.Decode.{decode_output, decode_on}
-use Rattle.decoding.specs.declared.Decoded.{Decoded}
-use Rattle.decoding.specs.declared.Decoded.TheVariants.{Whole, ShortMemory, Absent, Full}
+use Rattle.decoding.specs.declared.DecodeError.{DecodeError}
+use Rattle.decoding.specs.declared.DecodeError.TheVariants.{ShortMemory, Absent, Full}
 use Rattle.decoding.specs.Answers.{answer_of, taken_of, Answered}
-use Rattle.copies.specs.Copy.{Placed}
 use Rattle.laws.specs.OneMore.{each_append}
 use Rattle.laws.specs.Decoding.{decode-absent, decode-full, decode-more}
-use Rattle.decoding.proofs.SpanLaws.{Present, present}
-use Rattle.decoding.specs.Measured.{tokens, Joined, Measured}
+use Rattle.decoding.proofs.LookupLaws.{Present, present}
+use Rattle.decoding.specs.Measured.{Joined, Measured}
 
 -- ---- the ids joined
 
@@ -72,7 +67,7 @@ passed_none m room ids = record { joined = joined-none m ids; fits = zero-le; re
 
 module _ (m : Memory) (room : ℕ) (ids : List ℕ) (k n : ℕ) (p : Passed m room ids k n) where
   -- the decoding ends here, and r is its answer
-  ends : (e : DecodeEnd) (r : Decoded) → decode_at m (room - n) k (drop k ids) ≡ record { bytes = []; end = e }
+  ends : (e : DecodeEnd) (r : Result ℕ DecodeError) → decode_at m (room - n) k (drop k ids) ≡ record { bytes = []; end = e }
       → answer_of r ≡ decode_answer n e → (answer_of r).count ≡ n → taken_of r (length ids) ≡ k → Measured m room ids r
   ends e r here a c t =
       let bytes = each (lookup m) (take k ids) in
@@ -86,22 +81,22 @@ module _ (m : Memory) (room : ℕ) (ids : List ℕ) (k n : ℕ) (p : Passed m ro
       }
 
   -- at the end: all ids
-  pub ends-whole : length ids ≤ k → Measured m room ids (Whole n)
+  pub ends-whole : length ids ≤ k → Measured m room ids (Ok n)
   unfolding decode_at
   ends-whole h =
       let t : length ids ≡ k = omega (arith, p.joined.within) in
-      ends complete (Whole n) (rw (drop_of_length-le ids h)) refl refl t
+      ends complete (Ok n) (rw (drop_of_length-le ids h)) refl refl t
 
   module _ (h : k < length ids) where
-    pub ends-absent : lookup m (get_or ids k 0) ≡ [] → Measured m room ids (Absent n k (get_or ids k 0))
+    pub ends-absent : lookup m (get_or ids k 0) ≡ [] → Measured m room ids (Err (Absent n k (get_or ids k 0)))
     ends-absent e =
-        ends (absent k (get_or ids k 0)) (Absent n k (get_or ids k 0))
+        ends (absent k (get_or ids k 0)) (Err (Absent n k (get_or ids k 0)))
         (rw (drop-cons ids k 0 h) (decode-absent m (room - n) k (get_or ids k 0) (drop (suc k) ids) e)) refl refl refl
 
     module _ (some : 1 ≤ length (lookup m (get_or ids k 0))) where
-      pub ends-full : room - n < length (lookup m (get_or ids k 0)) → Measured m room ids (Full n k)
+      pub ends-full : room - n < length (lookup m (get_or ids k 0)) → Measured m room ids (Err (Full n k))
       ends-full f =
-          ends (full k) (Full n k)
+          ends (full k) (Err (Full n k))
           (rw (drop-cons ids k 0 h)
           (decode-full m (room - n) k (get_or ids k 0) (drop (suc k) ids) (lookup m (get_or ids k 0)) refl some f))
           refl refl refl
@@ -123,93 +118,72 @@ module _ (m : Memory) (room : ℕ) (ids : List ℕ) (k n : ℕ) (p : Passed m ro
 
 -- ---- the second pass
 
--- the bytes of the first k ids stand in after, n in all, and the cells from total on are as before
-pub record Written (m : Memory) (ids : List ℕ) (k n total : ℕ) (before after : List ℕ) : Type 0 where
+-- the bytes of the first k ids stand in after, n in all
+pub record Written (m : Memory) (ids : List ℕ) (k n : ℕ) (after : List ℕ) : Type 0 where
   pub joined : Joined m ids k n
-  pub same : length after ≡ length before
   pub bytes : take n after ≡ each (lookup m) (take k ids)
-  pub kept : drop total after ≡ drop total before
 
 -- what is known of the id at k, and that its bytes fit, since those of all ids do
 pub record NextToken (m : Memory) (ids : List ℕ) (k n total : ℕ) : Type 0 where
-  pub here : k < length ids
   pub some : 1 ≤ length (lookup m (get_or ids k 0))
   pub token : Present m (get_or ids k 0)
   pub room : n + length (lookup m (get_or ids k 0)) ≤ total
 
-pub next-token : (m : Memory) (ids : List ℕ) (k n count total : ℕ) → Joined m ids count total → Joined m ids k n → k < count
+pub next-token : (m : Memory) (ids : List ℕ) (k n total : ℕ) → Joined m ids (length ids) total → Joined m ids k n → k < length ids
     → NextToken m ids k n total
-next-token m ids k n count total all j h =
+next-token m ids k n total all j h =
     let some = all.present k h in
-    let next = joined-more m ids k n j (omega (arith, all.within)) some in
-    let fewer = each_fewer (lookup m) ids (k + 1) count (omega arith) in
+    let next = joined-more m ids k n j h some in
+    let fewer = each_fewer (lookup m) ids (k + 1) (length ids) (omega arith) in
     record {
-      here = omega (arith, all.within);
       some = some;
       token = present m (get_or ids k 0) some;
       room = omega (arith, next.count, all.count);
     }
 
-pub written_none : (m : Memory) (ids : List ℕ) (total : ℕ) (before : List ℕ) → Written m ids 0 0 total before before
-unfolding each
-written_none m ids total before = record { joined = joined-none m ids; same = refl; bytes = refl; kept = refl }
+-- what is left of a list from a place on
+pub rest_size : (l : List ℕ) (k : ℕ) → length (take (length l - k) (drop k l)) ≡ length l - k
+rest_size l k = length-take-le (length l - k) (drop k l) (simp length-drop (omega arith))
 
-module _ (m : Memory) (ids : List ℕ) (k n total : ℕ) (before after : List ℕ) (w : Written m ids k n total before after) where
+-- a copy out of what is left of the blob is the token
+pub token-copied : (m : Memory) (i start len : ℕ) (new : List ℕ) → Present m i → start ≡ get_or m.offsets i 0
+    → len ≡ get_or m.offsets (i + 1) 0 - get_or m.offsets i 0
+    → take len new ≡ take len (take (length m.blob - start) (drop start m.blob)) → take len new ≡ lookup m i
+token-copied m i start len new t es el c =
+    c ∙ take-take len (length m.blob - start) (drop start m.blob) (omega (arith, t.inside, t.ordered)) ∙ rw (es, el) (sym t.bytes)
+
+pub written_none : (m : Memory) (ids before : List ℕ) → Written m ids 0 0 before
+unfolding each
+written_none m ids before = record { joined = joined-none m ids; bytes = refl }
+
+-- the front of a list after a part of it was written
+put-front : (d new t : List ℕ) (at k len : ℕ) → at ≤ length d → len ≤ length new → take len new ≡ t
+    → take (at + len) (put_mid at k d new) ≡ take at d ++ t
+put-front d new t at k len h l e =
+    let size : length (take at d) ≡ at = length-take-le at d h in
+    ap (λ (a : ℕ). take (a + len) (put_mid at k d new)) (sym size)
+    ∙ take-append-add (take at d) _ len
+    ∙ ap (λ (r : List ℕ). take at d ++ r) (take-append-le len new _ l ∙ e)
+
+module _ (m : Memory) (ids : List ℕ) (k n : ℕ) (after : List ℕ) (w : Written m ids k n after) where
   -- a token more
-  pub written-more : (now : List ℕ) → k < length ids → 1 ≤ length (lookup m (get_or ids k 0)) → length now ≡ length after
-      → Placed after n (lookup m (get_or ids k 0)) total now
-      → Written m ids (k + 1) (n + length (lookup m (get_or ids k 0))) total before now
-  written-more now h some len p = record {
-    joined = joined-more m ids k n w.joined h some;
-    same = len ∙ w.same;
-    bytes = p.written ∙ rw (each_more (lookup m) ids k h, w.bytes);
-    kept = p.kept ∙ w.kept;
+  pub written-more : (new : List ℕ) (room len total : ℕ) → k < length ids → n ≤ length after → len ≤ length new
+      → NextToken m ids k n total → len ≡ length (lookup m (get_or ids k 0)) → take len new ≡ lookup m (get_or ids k 0)
+      → Written m ids (k + 1) (n + len) (put_mid n room after new)
+  written-more new room len total h inside l t size e = record {
+    joined = rw size (joined-more m ids k n w.joined h t.some);
+    bytes = put-front after new _ n room len inside l e ∙ rw (each_more (lookup m) ids k h, w.bytes);
   }
 
   -- all tokens
-  pub written_all : Joined m ids k total → after ≡ over (each (lookup m) (take k ids)) before
-  written_all all =
-      let e : n ≡ total = w.joined.count ∙ sym all.count in
-      sym (take-append-drop total after)
-      ∙ rw (w.kept, ← e) (ap (λ (l : List ℕ). l ++ drop n before) w.bytes ∙ rw (← w.joined.count))
+  pub written_all : length ids ≤ k → Joined m ids (length ids) (length after) → after ≡ each (lookup m) ids
+  written_all h all =
+      let last : k ≡ length ids = omega (arith, w.joined.within) in
+      let size : n ≡ length after = w.joined.count ∙ ap (λ (j : ℕ). length (each (lookup m) (take j ids))) last ∙ sym all.count in
+      sym (take-length after) ∙ ap (λ (j : ℕ). take j after) (sym size) ∙ w.bytes
+      ∙ ap (λ (j : ℕ). each (lookup m) (take j ids)) last ∙ ap (each (lookup m)) (take-length ids)
 
 -- ---- both passes
-
--- decoding looks at nothing but the offsets and the blob
-module _ (single : List ℤ) (offsets blob roots table : List ℕ) where
-  pub lookup-same : lookup (memory single offsets blob roots table) ≡ lookup (tokens offsets blob)
-  unfolding lookup
-  lookup-same = refl
-
-  -- one id, given the same of those after it
-  same_step : (n k i : ℕ) (ids : List ℕ)
-      → ((n k : ℕ) → decode_at (memory single offsets blob roots table) n k ids ≡ decode_at (tokens offsets blob) n k ids)
-      → (l : List ℕ) → lookup (tokens offsets blob) i ≡ l → (c : Bool) → leb (length l) n ≡ c
-      → decode_at (memory single offsets blob roots table) n k (i ∷ ids) ≡ decode_at (tokens offsets blob) n k (i ∷ ids)
-  same_step n k i ids after [] e c h = decode-absent _ n k i ids (ap (λ (f : ℕ → List ℕ). f i) lookup-same ∙ e) ∙ sym
-      (decode-absent _ n k i ids e)
-  same_step n k i ids after (b ∷ bs) e true h =
-      let fits = leb-true (length (b ∷ bs)) n h in
-      decode-more _ n k i ids (b ∷ bs) (ap (λ (f : ℕ → List ℕ). f i) lookup-same ∙ e) (omega arith) fits
-      ∙ ap (decoded (b ∷ bs)) (after (n - length (b ∷ bs)) (suc k))
-      ∙ sym (decode-more _ n k i ids (b ∷ bs) e (omega arith) fits)
-  same_step n k i ids after (b ∷ bs) e false h =
-      let over = leb-false (length (b ∷ bs)) n h in
-      decode-full _ n k i ids (b ∷ bs) (ap (λ (f : ℕ → List ℕ). f i) lookup-same ∙ e) (omega arith) over
-      ∙ sym (decode-full _ n k i ids (b ∷ bs) e (omega arith) over)
-
-  decode_at-same : (n k : ℕ) (ids : List ℕ) → decode_at (memory single offsets blob roots table) n k ids
-      ≡ decode_at (tokens offsets blob) n k ids
-  unfolding decode_at
-  decode_at-same n k [] = refl
-  decode_at-same n k (i ∷ ids) =
-      same_step n k i ids (λ (a b : ℕ). decode_at-same a b ids) (lookup (tokens offsets blob) i) refl
-      (leb (length (lookup (tokens offsets blob) i)) n) refl
-
-  pub decoding-same : (n : ℕ) (ids : List ℕ) → decoding (memory single offsets blob roots table) n ids ≡ decoding (tokens offsets blob) n
-      ids
-  unfolding decoding
-  decoding-same n ids = decode_at-same n 0 ids
 
 pub on_short : (m : Memory) (n : ℕ) (ids : List ℕ) → too_short m ≡ true → decode_on m n ids ≡ refused 1
 unfolding decode_on
@@ -219,16 +193,16 @@ pub on_enough : (m : Memory) (n : ℕ) (ids : List ℕ) → too_short m ≡ fals
 unfolding decode_on
 on_enough m n ids e = rw (e, decode_on)
 
-module _ (single : List ℤ) (offsets blob roots table ids before : List ℕ) (n : ℕ) where
-  abbrev whole-memory : Memory
-  whole-memory = memory single offsets blob roots table
+module _ (m : Memory) (ids before : List ℕ) (n : ℕ) where
+  pub answered-short : true ≡ too_short m → Answered (decode_on m n ids) (Err ShortMemory) before before
+  answered-short h = rw (on_short m n ids (sym h)) (record { answer = refl; cells = refl })
 
-  pub answered-short : too_short whole-memory ≡ true → Answered (decode_on whole-memory n ids) ShortMemory before before
-  answered-short h = rw (on_short whole-memory n ids h) (record { answer = refl; cells = refl })
-
-  pub answered : (r : Decoded) (after : List ℕ) → too_short whole-memory ≡ false → Measured (tokens offsets blob) n ids r
-      → after ≡ over (each (lookup (tokens offsets blob)) (take (taken_of r (length ids)) ids)) before
-      → Answered (decode_on whole-memory n ids) r before after
-  answered r after h d w =
-      rw (on_enough whole-memory n ids h)
-      (rw (decoding-same single offsets blob roots table n ids) (record { answer = d.answer; cells = w ∙ rw d.bytes }))
+  pub answered : (r : Result ℕ DecodeError) (part : List ℕ) (total : ℕ) → false ≡ too_short m → Measured m n ids r
+      → total ≡ (answer_of r).count → part ≡ each (lookup m) (take (taken_of r (length ids)) ids)
+      → Answered (decode_on m n ids) r before (part ++ drop total before)
+  answered r part total h d t w =
+      rw (on_enough m n ids (sym h))
+      (record {
+        answer = d.answer;
+        cells = rw (t, d.joined.count, w, d.bytes);
+      })

@@ -13,8 +13,9 @@ use Rattle.spec.specs.Memory.{Memory, too_short}
 use Rattle.spec.specs.Encode.{Output, refused}
 use Rattle.spec.specs.Decode.{DecodeEnd, complete, absent, full, decoding, decode_output, decode_on}
 use Rattle.spec.specs.Decode.{text_answer, text_output, decode_text_on}
-use Rattle.decoding.specs.declared.Decoded.{Decoded}
-use Rattle.decoding.specs.declared.Decoded.TheVariants.{Whole, NotUtf8}
+use Rattle.std.specs.Prelude.{Ok, Err}
+use Rattle.decoding.specs.declared.DecodeError.{DecodeError}
+use Rattle.decoding.specs.declared.DecodeError.TheVariants.{ShortMemory, Absent, Full, NotUtf8}
 use Rattle.decoding.specs.Answers.{answer_of, Answered}
 use Rattle.decoding.proofs.DecodePasses.{on_short, on_enough}
 
@@ -48,6 +49,13 @@ output_count bs complete = refl
 output_count bs (absent k i) = refl
 output_count bs (full k) = refl
 
+-- a refusal has a number
+refused_number : (e : DecodeError) → (answer_of (Err e)).number ≡ 0 → ⊥
+refused_number ShortMemory h = omega arith
+refused_number (Absent len index id) h = omega arith
+refused_number (Full len index) h = omega arith
+refused_number (NotUtf8 len offset) h = omega arith
+
 module _ (m : Memory) (n : ℕ) (ids : List ℕ) where
   pub text-on : decode_text_on m n ids ≡ text_of (decode_on m n ids).answer.number (decode_on m n ids)
   text-on = go (too_short m) refl
@@ -65,7 +73,7 @@ module _ (m : Memory) (n : ℕ) (ids : List ℕ) where
       go false e = rw (on_enough m n ids e) (output_count (decoding m n ids).bytes (decoding m n ids).end)
 
   module _ (before after : List ℕ) (same : length after ≡ length before) where
-    module _ (len : ℕ) (d : Answered (decode_on m n ids) (Whole len) before after) where
+    module _ (len : ℕ) (d : Answered (decode_on m n ids) (Ok len) before after) where
       whole-count : length (decode_on m n ids).cells ≡ len
       whole-count = sym on-count ∙ ap (λ (a : Answer). a.count) (sym d.answer)
 
@@ -83,7 +91,7 @@ module _ (m : Memory) (n : ℕ) (ids : List ℕ) where
       text : decode_text_on m n ids ≡ text_of 0 (decode_on m n ids)
       text = text-on ∙ ap (λ (k : ℕ). text_of k (decode_on m n ids)) number
 
-      pub text-good : first_bad (take len after) ≡ None → Answered (decode_text_on m n ids) (Whole len) before after
+      pub text-good : first_bad (take len after) ≡ None → Answered (decode_text_on m n ids) (Ok len) before after
       text-good h =
           rw text
           (record {
@@ -92,7 +100,7 @@ module _ (m : Memory) (n : ℕ) (ids : List ℕ) where
             cells = d.cells;
           })
 
-      pub text-bad : (k : ℕ) → first_bad (take len after) ≡ Some k → Answered (decode_text_on m n ids) (NotUtf8 len k) before after
+      pub text-bad : (k : ℕ) → first_bad (take len after) ≡ Some k → Answered (decode_text_on m n ids) (Err (NotUtf8 len k)) before after
       text-bad k h =
           rw text
           (record {
@@ -102,8 +110,8 @@ module _ (m : Memory) (n : ℕ) (ids : List ℕ) where
             cells = d.cells;
           })
 
-    -- any other answer stands
-    pub text-other : (r : Decoded) → ((answer_of r).number ≡ 0 → ⊥) → Answered (decode_on m n ids) r before after
-        → Answered (decode_text_on m n ids) r before after
-    text-other r h d =
-        rw (text-on ∙ text_of_other _ (decode_on m n ids) (λ e. h (ap (λ (a : Answer). a.number) d.answer ∙ e))) d
+    -- any refusal stands
+    pub text-other : (e : DecodeError) → Answered (decode_on m n ids) (Err e) before after
+        → Answered (decode_text_on m n ids) (Err e) before after
+    text-other e d =
+        rw (text-on ∙ text_of_other _ (decode_on m n ids) (λ z. refused_number e (ap (λ (a : Answer). a.number) d.answer ∙ z))) d

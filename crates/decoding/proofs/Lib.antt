@@ -1,4 +1,4 @@
 -- Laws that the proofs share.
-pub mod SpanLaws
+pub mod LookupLaws
 pub mod DecodePasses
 pub mod DecodeText

@@ -1,4 +1,3 @@
 -- What the contracts of this crate cite, in the order in which to read it.
 pub mod Answers
-pub mod Span
 pub mod Measured

@@ -1,72 +1,43 @@
 -- `decoding::decode_utf8` meets its contract: the answer of decoding to bytes, and the first bad offset of what was written. Assumes
 -- nothing.
-use mathlib.Core.Path.{◌≡◌, refl, sym}
-use Prim.Native.Nat.{ℕ}
-use native.Mathlib.Omega.{arith}
-use lib.ListN.{length}
+use Rattle.std.proofs.Common.{sym, length}
 use lib.Seq.{length-take-le}
-use Rattle.spec.specs.Memory.{memory}
-use Rattle.decoding.specs.declared.Decoded.{Decoded}
-use Rattle.decoding.specs.declared.Decoded.TheVariants.{Whole, ShortMemory, Absent, Full, NotUtf8}
-use Rattle.decoding.specs.Answers.{answer_of}
+use Rattle.std.proofs.lemmas.Result.{err_from_is_err_and}
+use Rattle.memory.specs.Lent.{cells_of}
 use Rattle.decoding.proofs.DecodeText.{text-other, text-good, text-bad, whole-inside}
 use Rattle.decoding.proofs.decode_utf8.Goals as goal
 
--- an answer that is not the first case is a refusal
-other : (r : Decoded) → ((len : ℕ) → r ≡ Whole len → ⊥) → (answer_of r).number ≡ 0 → ⊥
-other (Whole len) h e = h len refl
-other ShortMemory h e = omega arith
-other (Absent len index id) h e = omega arith
-other (Full len index) h e = omega arith
-other (NotUtf8 len offset) h e = omega arith
-
-pub returns-in_default : goal.returns-in_default
-returns-in_default c =
+pub returns-in_err-len : goal.returns-in_err-len
+returns-in_err-len c =
     let a = c.args in
-    let m = memory a.single.now a.offsets.now a.blob.now a.roots.now a.table.now in
-    let n = length a.out.now in
-    let b = c.decode_bytes-answer in
-    text-other m n a.ids.now a.out.now b.new.out b.auto.out b.result
-    (other b.result c.in_default.not-Whole) b.ensures
+    let b = c.decode_bytes in
+    let p = err_from_is_err_and c.from_residual.result c.from_residual.ensures.1 in
+    rw (p.1, p.2) (text-other (cells_of a.memory) (length a.out.now) a.ids.now a.out.now b.new.out b.auto.out
+    c.in_err-len.field-0.0 c.in_err-len.ensures)
 
 pub slice_bounds-first_bad-end : goal.slice_bounds-first_bad-end
 slice_bounds-first_bad-end c =
     let a = c.args in
-    let m = memory a.single.now a.offsets.now a.blob.now a.roots.now a.table.now in
-    let n = length a.out.now in
-    let b = c.decode_bytes-answer in
-    let d = c.in-Whole.ensures in
-    whole-inside m n a.ids.now a.out.now b.new.out b.auto.out
-    c.in-Whole.len d
+    let b = c.decode_bytes in
+    whole-inside (cells_of a.memory) (length a.out.now) a.ids.now a.out.now b.new.out b.auto.out c.in_ok-len.len c.in_ok-len.ensures
 
 pub slice_bounds-first_bad-end-2 : goal.slice_bounds-first_bad-end-2
 slice_bounds-first_bad-end-2 c =
     let a = c.args in
-    let m = memory a.single.now a.offsets.now a.blob.now a.roots.now a.table.now in
-    let n = length a.out.now in
-    let b = c.decode_bytes-answer in
-    let d = c.in-Whole.ensures in
-    sym (length-take-le _ _ (whole-inside m n a.ids.now a.out.now b.new.out b.auto.out
-    c.in-Whole.len d))
+    let b = c.decode_bytes in
+    sym (length-take-le _ _ (whole-inside (cells_of a.memory) (length a.out.now) a.ids.now a.out.now b.new.out b.auto.out
+    c.in_ok-len.len c.in_ok-len.ensures))
 
-pub returns-in_default-first_bad : goal.returns-in_default-first_bad
-returns-in_default-first_bad c =
+pub returns-in-None : goal.returns-in-None
+returns-in-None c =
     let a = c.args in
-    let m = memory a.single.now a.offsets.now a.blob.now a.roots.now a.table.now in
-    let n = length a.out.now in
-    let b = c.decode_bytes-answer in
-    let d = c.in-Whole.ensures in
-    text-good m n a.ids.now a.out.now b.new.out b.auto.out
-    c.in-Whole.len d
-    (sym c.in_default-first_bad.ensures)
+    let b = c.decode_bytes in
+    text-good (cells_of a.memory) (length a.out.now) a.ids.now a.out.now b.new.out b.auto.out c.in_ok-len.len c.in_ok-len.ensures
+    (sym c.in-None.ensures)
 
-pub returns : goal.returns
-returns c =
+pub returns-in-Some : goal.returns-in-Some
+returns-in-Some c =
     let a = c.args in
-    let m = memory a.single.now a.offsets.now a.blob.now a.roots.now a.table.now in
-    let n = length a.out.now in
-    let b = c.decode_bytes-answer in
-    let d = c.in-Whole.ensures in
-    text-bad m n a.ids.now a.out.now b.new.out b.auto.out
-    c.in-Whole.len d
-    c.in-BadAt.offset (sym c.in-BadAt.ensures)
+    let b = c.decode_bytes in
+    text-bad (cells_of a.memory) (length a.out.now) a.ids.now a.out.now b.new.out b.auto.out c.in_ok-len.len c.in_ok-len.ensures
+    c.in-Some.offset (sym c.in-Some.ensures)

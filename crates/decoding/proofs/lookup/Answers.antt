@@ -1,46 +1,38 @@
--- `decoding::lookup` meets its contract: each test is one of `span_of`, whose bytes are those of the definition. Assumes nothing.
-use mathlib.Core.Path.{◌≡◌, sym, ap, ◌∙◌}
-use mathlib.Core.List.{List}
-use Prim.Native.Nat.{ℕ}
-use native.Mathlib.Omega.{arith}
-use Rattle.spec.specs.Decode.{lookup}
-use Rattle.decoding.specs.declared.Span.{Span}
-use Rattle.decoding.specs.Measured.{tokens}
-use Rattle.decoding.specs.Span.{span_of, span_bytes}
-use Rattle.decoding.proofs.SpanLaws.{span-far, span-unpaired, span-empty, span-past, span-long, span-token, span_lookup}
+-- `decoding::lookup` meets its contract: each test is one of the definition's. Assumes nothing.
+use Rattle.std.proofs.Common.{arith}
+use Rattle.decoding.proofs.LookupLaws.{if_any-none, lookup-far, lookup-unpaired, lookup-outside, token-good, token-bad}
 use Rattle.decoding.proofs.lookup.Goals as goal
 
--- a span of the definition has the bytes of the id's token
-means_of : (offsets blob : List ℕ) (i : ℕ) (r : Span) → r ≡ span_of offsets blob i
-    → span_bytes blob r ≡ lookup (tokens offsets blob) i
-means_of offsets blob i r e = ap (span_bytes blob) e ∙ span_lookup (tokens offsets blob) i
-
 pub returns-then-i-ge65536 : goal.returns-then-i-ge65536
-returns-then-i-ge65536 c =
-    let e = sym (span-far _ _ _ c.if-i-ge65536.true) in
-    record { span = e; means = means_of _ _ _ _ e }
+returns-then-i-ge65536 c = if_any-none _ (lookup-far _ _ c.if-i-ge65536.true)
 
-pub returns-then-i-offsets : goal.returns-then-i-offsets
-returns-then-i-offsets c =
-    let e = sym (span-unpaired _ _ _ (omega arith) c.if-i-offsets.true) in
-    record { span = e; means = means_of _ _ _ _ e }
+pub returns-in_err-start : goal.returns-in_err-start
+returns-in_err-start c =
+    rw c.from_residual.ensures
+    (if_any-none _ (lookup-unpaired _ _ (omega arith) (omega (arith, c.in_err-start.ensures.lookup.3))))
 
-pub returns-then-start-end : goal.returns-then-start-end
-returns-then-start-end c =
-    let e = sym (span-empty _ _ _ (omega arith) c.if-start-end.true) in
-    record { span = e; means = means_of _ _ _ _ e }
+pub returns-in_err-end : goal.returns-in_err-end
+returns-in_err-end c =
+    rw c.from_residual-in_err-end.ensures
+    (if_any-none _ (lookup-unpaired _ _ (omega arith) (omega (arith, c.in_err-end.ensures.lookup.3))))
 
-pub returns-then-end-blob : goal.returns-then-end-blob
-returns-then-end-blob c =
-    let e = sym (span-past _ _ _ (omega arith) c.if-start-end.false c.if-end-blob.true) in
-    record { span = e; means = means_of _ _ _ _ e }
+pub returns-in_err-token : goal.returns-in_err-token
+returns-in_err-token c =
+    let a = c.in_ok-start.ensures.lookup.3.1 0 in
+    let e = c.in_ok-end.ensures.lookup.3.1 0 in
+    rw c.from_residual-in_err-token.ensures
+    (if_any-none _ (lookup-outside _ _ (omega arith) (rw (← a, ← e) c.in_err-token.ensures.lookup.0)))
 
-pub returns-then-end-start-gt255 : goal.returns-then-end-start-gt255
-returns-then-end-start-gt255 c =
-    let e = sym (span-long _ _ _ (omega arith) c.if-start-end.false c.if-end-blob.false (omega arith)) in
-    record { span = e; means = means_of _ _ _ _ e }
+pub returns-in-1-to-255 : goal.returns-in-1-to-255
+returns-in-1-to-255 c =
+    let a = c.in_ok-start.ensures.lookup.3.1 0 in
+    let e = c.in_ok-end.ensures.lookup.3.1 0 in
+    let t = c.in_ok-token.ensures.lookup.0 in
+    token-good _ _ (omega arith) _ _ a e t.0 t.1 _ t.2 (omega arith) (omega arith)
 
-pub returns : goal.returns
-returns c =
-    let e = sym (span-token _ _ _ (omega arith) c.if-start-end.false c.if-end-blob.false (omega arith)) in
-    record { span = e; means = means_of _ _ _ _ e }
+pub returns-in_default : goal.returns-in_default
+returns-in_default c =
+    let a = c.in_ok-start.ensures.lookup.3.1 0 in
+    let e = c.in_ok-end.ensures.lookup.3.1 0 in
+    let t = c.in_ok-token.ensures.lookup.0 in
+    token-bad _ _ (omega arith) _ _ a e t.0 t.1 _ t.2 (λ some short. omega arith)

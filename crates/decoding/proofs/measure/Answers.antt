@@ -1,62 +1,52 @@
--- `decoding::measure` meets its contract. The loop's invariant: the ids passed have bytes, and they fit. Assumes nothing.
-use mathlib.Core.Path.{sym, ◌∙◌}
-use native.Mathlib.Omega.{arith}
-use lib.ListN.{get_or}
-use Rattle.decoding.proofs.SpanLaws.{has_span, span_size, span_absent}
-use Rattle.decoding.specs.Measured.{tokens}
+-- `decoding::measure` meets its contract: each id passed has bytes, and they fit. Assumes nothing.
+use Rattle.std.proofs.Common.{◌≡◌, sym, ap, ◌∙◌, arith, get_or, Bor, List, [], ℕ}
+use Rattle.spec.specs.Decode.{lookup}
+use Rattle.std.proofs.lemmas.Result.{err_from_is_err_and}
+use Rattle.std.specs.Prelude.{Option}
+use Rattle.std.specs.Option.{ok_or, option_map}
+use Rattle.memory.specs.Lent.{cells_of}
+use Rattle.decoding.specs.declared.DecodeError.TheVariants.{Absent}
+use Rattle.decoding.proofs.LookupLaws.{no_bytes, found}
 use Rattle.decoding.proofs.DecodePasses.{passed_none, passed-more, ends-whole, ends-absent, ends-full}
 use Rattle.decoding.proofs.measure.Goals as goal
 
 pub loop-index-init : goal.loop-index-init
 loop-index-init c = passed_none _ _ _
 
-pub returns-in_default : goal.returns-in_default
-returns-in_default c =
+pub returns-in_err-token : goal.returns-in_err-token
+returns-in_err-token c =
     let a = c.args in
     let l = c.loop-index in
-    let m = tokens a.offsets.now a.blob.now in
-    ends-absent m a.room a.ids.now l.index l.len l.invariant c.loop-index-test.true
-    (span_absent m (get_or a.ids.now l.index 0) (sym c.lookup.ensures.span ∙ c.in_default.is))
-
-pub overflow_sub-room : goal.overflow_sub-room
-overflow_sub-room c = c.loop-index.invariant.fits
-
-pub returns-then-more-room : goal.returns-then-more-room
-returns-then-more-room c =
-    let a = c.args in
-    let l = c.loop-index in
-    let m = tokens a.offsets.now a.blob.now in
+    let m = cells_of a.memory in
     let i = get_or a.ids.now l.index 0 in
-    let e = sym c.lookup.ensures.span ∙ c.in-Token.is in
-    let size = span_size m i _ _ e in
-    let some = (has_span a.offsets.now a.blob.now i _ _ e).some in
-    ends-full m a.room a.ids.now l.index l.len l.invariant c.loop-index-test.true
-    (omega arith) (omega arith)
+    let p = err_from_is_err_and c.from_residual.result c.from_residual.ensures.1 in
+    let e = c.in_err-token.ensures in
+    let none : lookup m i ≡ [] = no_bytes _ (ap (option_map (λ (t : Bor (List ℕ)). t.now)) (sym e.ok_part) ∙ c.lookup.ensures) in
+    let gone : c.in_err-token.field-0.0 ≡ Absent l.len l.index i =
+    cc (e.value ∙ ap (λ (o : Option (Bor (List ℕ))). ok_or o (Absent l.len l.index i)) e.ok_part) in
+    rw (p.1, p.2, gone) (ends-absent m a.room a.ids.now l.index l.len l.invariant c.loop-index-test.true none)
 
-pub overflow_add-len : goal.overflow_add-len
-overflow_add-len c = omega (arith, c.loop-index.invariant.fits)
-
-pub overflow_add-index : goal.overflow_add-index
-overflow_add-index c = omega (arith, c.loop-index-test.true)
-
-pub loop-index-smaller : goal.loop-index-smaller
-loop-index-smaller c = omega (arith, c.loop-index-test.true)
+pub returns-then-token-room : goal.returns-then-token-room
+returns-then-token-room c =
+    let a = c.args in
+    let l = c.loop-index in
+    let m = cells_of a.memory in
+    let e = c.in_ok-token.ensures in
+    let t = found _ _ (ap (option_map (λ (t : Bor (List ℕ)). t.now)) (sym e.ok_part) ∙ c.lookup.ensures) in
+    ends-full m a.room a.ids.now l.index l.len l.invariant c.loop-index-test.true (rw t.same t.some) (rw t.same (omega arith))
 
 pub loop-index-preserved : goal.loop-index-preserved
 loop-index-preserved c =
     let a = c.args in
     let l = c.loop-index in
-    let m = tokens a.offsets.now a.blob.now in
-    let i = get_or a.ids.now l.index 0 in
-    let e = sym c.lookup.ensures.span ∙ c.in-Token.is in
-    let size = span_size m i _ _ e in
-    let some = (has_span a.offsets.now a.blob.now i _ _ e).some in
-    rw (← size)
-    (passed-more m a.room a.ids.now l.index l.len l.invariant
-    c.loop-index-test.true (omega arith) (omega arith))
+    let m = cells_of a.memory in
+    let e = c.in_ok-token.ensures in
+    let t = found _ _ (ap (option_map (λ (t : Bor (List ℕ)). t.now)) (sym e.ok_part) ∙ c.lookup.ensures) in
+    rw (← t.same)
+    (passed-more m a.room a.ids.now l.index l.len l.invariant c.loop-index-test.true (rw t.same t.some) (rw t.same (omega arith)))
 
 pub returns : goal.returns
 returns c =
     let a = c.args in
     let l = c.loop-index in
-    ends-whole (tokens a.offsets.now a.blob.now) a.room a.ids.now l.index l.len l.invariant c.loop-index-test.false
+    ends-whole (cells_of a.memory) a.room a.ids.now l.index l.len l.invariant c.loop-index-test.false

@@ -1,11 +1,7 @@
-use Prim.Native.Nat.{◌-◌, ◌≤◌}
-use Rattle.decoding.specs.Measured.{tokens}
+-- The loop's invariant: the bytes of the ids passed stand in the output.
+use Rattle.memory.specs.Lent.{cells_of}
 use Rattle.decoding.proofs.DecodePasses.{Written}
 use Rattle.decoding.proofs.write_tokens.Given as goal
 
-abbrev pub invariant-loop-index : goal.invariant-loop-index
-invariant-loop-index l = (l.index ≤ l.count) × Written (tokens l.offsets l.blob) l.ids l.index l.at l.total
-    l.initial.out l.out
-
-abbrev pub decreases-loop-index : goal.decreases-loop-index
-decreases-loop-index l = l.count - l.index
+abbrev pub invariant-loop-id : goal.invariant-loop-id
+invariant-loop-id l = Written (cells_of l.memory) l.ids l.id-index l.at l.out
