@@ -9,6 +9,7 @@ use lib.Dec.{leb}
 use lib.ListN.{length, take, drop, get_or, length-append, length-drop, drop_of_length-le}
 use lib.Seq.{sets, sets-eq, drop-append-add, length-take-le}
 use borrow.Author.Tests.{leb-true, leb-false}
+use Rattle.std.specs.Prelude.{Ok, Err}
 use Rattle.spec.specs.Answer.{whole}
 use Rattle.spec.specs.Lists.{over}
 use Rattle.spec.specs.Scan.{waiting, stuck, Run}
@@ -16,7 +17,7 @@ use Rattle.spec.specs.Memory.{Memory}
 use Rattle.spec.specs.Match.{undecided_on}
 use Rattle.spec.specs.Stream.{holding, stopped_at, run_on}
 use Rattle.stream_record.specs.declared.Called.{Called}
-use Rattle.stream_record.specs.declared.Answer.TheVariants.{Taken, Stopped}
+use Rattle.stream_record.specs.declared.StreamError.TheVariants.{Stopped}
 use Rattle.runs.specs.declared.Ran.{Ran}
 use Rattle.runs.specs.declared.Ran.TheVariants.{Through, Waiting, Stuck}
 use Rattle.stream_record.specs.Answers.{record_of, answer_of}
@@ -45,12 +46,12 @@ module _ (total : ℕ) (before : List ℕ) (u : Run) (lent out : List ℕ) (r : 
   joins = count ∙ sym (length-append before ids)
 
   pub hands-opened : (rest : List ℕ) → u ≡ record { ids = ids; stop = waiting p rest }
-      → (r.answer ≡ Taken n) × (record_of r.stream ≡ holding 0 total rest) → Hands total before u lent out r
+      → (r.answer ≡ Ok n) × (record_of r.stream ≡ holding 0 total rest) → Hands total before u lent out r
   hands-opened rest e g = subst (λ (v : Run). Hands total before v lent out r) (sym e)
       (record { answer = ap answer_of g.0 ∙ ap whole joins; stream = g.1; written = written })
 
   pub hands-stopped : (b : ℕ) → u ≡ record { ids = ids; stop = stuck p b }
-      → (r.answer ≡ Stopped n p b) × (record_of r.stream ≡ stopped_at total p b) → Hands total before u lent out r
+      → (r.answer ≡ Err (Stopped n p b)) × (record_of r.stream ≡ stopped_at total p b) → Hands total before u lent out r
   hands-stopped b e g = subst (λ (v : Run). Hands total before v lent out r) (sym e)
       (record {
         answer = ap answer_of g.0 ∙ ap (λ (k : ℕ). record { number = 22; count = k; place = p; value = b }) joins;
@@ -85,7 +86,7 @@ module _ (m : Memory) (piece : List ℕ) (from count total all at n : ℕ) (befo
   writes w = w.written ∙ ap (λ (k : ℕ). sets lent k w.ids) (sym b)
 
   pub rest-through : RunsTo m piece from (length piece) count lent out (Through at n)
-      → (r.answer ≡ Taken n) × (record_of r.stream ≡ holding 0 all (drop at piece)) → Hands all before (run_from m total piece from)
+      → (r.answer ≡ Ok n) × (record_of r.stream ≡ holding 0 all (drop at piece)) → Hands all before (run_from m total piece from)
       lent out r
   rest-through w g =
       let c = w.comes in
@@ -97,14 +98,14 @@ module _ (m : Memory) (piece : List ℕ) (from count total all at n : ℕ) (befo
       ∙ ap (λ (x : List ℕ). record { ids = x; stop = waiting (total + at) (drop at piece) }) (append-nil w.ids)) g
 
   pub rest-waiting : RunsTo m piece from (length piece) count lent out (Waiting at n)
-      → (r.answer ≡ Taken n) × (record_of r.stream ≡ holding 0 all (drop at piece)) → Hands all before (run_from m total piece from)
+      → (r.answer ≡ Ok n) × (record_of r.stream ≡ holding 0 all (drop at piece)) → Hands all before (run_from m total piece from)
       lent out r
   rest-waiting w g =
       hands-opened all before (run_from m total piece from) lent out r w.ids n (total + at) (counts w) (writes w) (drop at piece)
       (w.comes.2 piece total (alike_self m piece)) g
 
   pub rest-stuck : RunsTo m piece from (length piece) count lent out (Stuck at n)
-      → (r.answer ≡ Stopped n (total + at) (get_or piece at 0)) × (record_of r.stream ≡ stopped_at all (total + at) (get_or piece at 0))
+      → (r.answer ≡ Err (Stopped n (total + at) (get_or piece at 0))) × (record_of r.stream ≡ stopped_at all (total + at) (get_or piece at 0))
       → Hands all before (run_from m total piece from) lent out r
   rest-stuck w g =
       hands-stopped all before (run_from m total piece from) lent out r w.ids n (total + at) (counts w) (writes w) (get_or piece at 0)
@@ -131,7 +132,7 @@ module _ (m : Memory) (held piece : List ℕ) (pos total all at n : ℕ) (lent o
   start = ap (λ (p : ℕ). run_on m p 0 (held ++ piece)) (sym (add-zero pos))
 
   pub held-waiting : RunsTo m (window held piece) 0 (length held) 0 lent out (Waiting at n)
-      → (r.answer ≡ Taken n) × (record_of r.stream ≡ holding 0 all (drop at (window held piece)))
+      → (r.answer ≡ Ok n) × (record_of r.stream ≡ holding 0 all (drop at (window held piece)))
       → Hands all [] (run_on m pos 0 (held ++ piece)) lent out r
   held-waiting w g =
       let c = w.comes in
@@ -142,7 +143,7 @@ module _ (m : Memory) (held piece : List ℕ) (pos total all at n : ℕ) (lent o
       (sym (waits_whole m held piece at c.0 c.1))) g
 
   pub held-stuck : RunsTo m (window held piece) 0 (length held) 0 lent out (Stuck at n)
-      → (r.answer ≡ Stopped n (pos + at) (get_or (window held piece) at 0))
+      → (r.answer ≡ Err (Stopped n (pos + at) (get_or (window held piece) at 0)))
       × (record_of r.stream ≡ stopped_at all (pos + at) (get_or (window held piece) at 0))
       → Hands all [] (run_on m pos 0 (held ++ piece)) lent out r
   held-stuck w g =

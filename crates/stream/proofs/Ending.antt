@@ -1,7 +1,7 @@
 -- What an end comes to, from the whole encoding of the held bytes: with a cell for every byte it is their scan. Assumes nothing.
 use mathlib.Core.Path.{◌≡◌, refl, sym, ap, ap₂, ◌∙◌, subst}
 use mathlib.Core.Bool.{false}
-use Rattle.std.specs.Prelude.{None}
+use Rattle.std.specs.Prelude.{None, Ok, Err}
 use mathlib.Core.List.{List, [], ◌∷◌}
 use Prim.Native.Nat.{ℕ, zero, suc, pred, ◌+◌, ◌-◌, ◌≤◌, ◌<◌}
 use native.Mathlib.Omega.{arith}
@@ -18,7 +18,7 @@ use Rattle.spec.specs.Stream.{StreamRecord, end, holding, stopped_at, closed, sc
 use Rattle.laws.specs.StreamLaws.{scan_on-none, scan_on-some}
 use Rattle.spec.specs.Stream.{call_on}
 use Rattle.stream_record.specs.declared.Called.{Called}
-use Rattle.stream_record.specs.declared.Answer.TheVariants.{Taken, Stopped}
+use Rattle.stream_record.specs.declared.StreamError.TheVariants.{Stopped}
 use Rattle.stream_record.specs.Answers.{record_of, answer_of, Answered}
 use Rattle.stream_record.proofs.Refusing.{call-through}
 
@@ -149,7 +149,7 @@ module _ (m : Memory) (r : StreamRecord) (lent out : List ℕ) (d : Called) (lon
   cells = written ∙ ap (λ (l : List ℕ). over l lent) (its-cells m held (length lent) long room)
 
   pub gives-closed : (count : ℕ) → whole count ≡ (encode_on m (length lent) held).answer
-      → (d.answer ≡ Taken count) × (record_of d.stream ≡ holding 2 r.total []) → Answered (call_on m r (end lent)) d lent out
+      → (d.answer ≡ Ok count) × (record_of d.stream ≡ holding 2 r.total []) → Answered (call_on m r (end lent)) d lent out
   gives-closed count e g =
       let w = says-whole m held (length lent) long room count e in
       subst (λ (x : spec.Called). Answered x d lent out) (sym (comes done w.0))
@@ -158,7 +158,7 @@ module _ (m : Memory) (r : StreamRecord) (lent out : List ℕ) (d : Called) (lon
   pub gives-stopped : (count offset byte place : ℕ) → record { number = 22; count = count; place = offset; value = byte }
       ≡ (encode_on m (length lent) held).answer
       → place ≡ r.total - r.held_len + offset
-      → (d.answer ≡ Stopped count place byte) × (record_of d.stream ≡ stopped_at r.total place byte)
+      → (d.answer ≡ Err (Stopped count place byte)) × (record_of d.stream ≡ stopped_at r.total place byte)
       → Answered (call_on m r (end lent)) d lent out
   gives-stopped count offset byte place e p g =
       let w = says_none m held (length lent) long room count offset byte e in

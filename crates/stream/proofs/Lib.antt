@@ -1,5 +1,4 @@
 -- Laws of the definitions that the proofs of the running encoder cite.
-pub mod Holding
 pub mod Windows
 pub mod Adding
 pub mod Calling
