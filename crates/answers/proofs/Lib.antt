@@ -1,3 +1,2 @@
--- What the proofs of this crate and of `vocabulary` share.
-pub mod TakingRecords
+-- What a load comes to, from what its parts leave.
 pub mod Settling

@@ -1,4 +1,3 @@
--- What the contracts of this crate and of `vocabulary` cite.
+-- What the contracts of `vocabulary` and of the linked calls cite.
 pub mod Answers
 pub mod LoadParts
-pub mod Taking

@@ -1,83 +1,32 @@
--- What the parts of a load give, case by case: its end, and the records of a source one by one. Definitions that repeat a function's body
--- stand here for the proofs that cite them; what they come to is `RecordsAs` and, for the end, `answers` Settling. Assumes nothing.
-use Rattle.std.specs.Prelude.{◌≡◌, Bool, true, false, List, ℕ, ◌+◌, ℤ}
+-- What the parts of a load leave: one record, the records of a source one by one, and the build of all of them. Assumes nothing.
+use Rattle.std.specs.Prelude.{◌≡◌, Bool, List, ℕ, ℤ, Result, Ok, Err}
+use Rattle.spec.specs.Check.{pass, refuse}
 use Rattle.spec.specs.Token.{Token}
-use Rattle.spec.specs.Memory.{Memory, emptied}
-use Rattle.spec.specs.Load.{Room, Form, line, refused, finish, load}
+use Rattle.spec.specs.Memory.{Memory, memory_of}
+use Rattle.spec.specs.Load.{Room, Form, accepted, refused, counts_of, take_one, finish, load}
 use Rattle.nodes.specs.Run.{Nodes}
 use Rattle.tokens.specs.Built.{Built}
 use Rattle.tokens.specs.declared.Build.{Build}
-use Rattle.ending.specs.declared.Finished.{Finished}
-use Rattle.tokens.specs.declared.Pushed.{Pushed}
-use Rattle.source.specs.declared.read.Read.{Read}
-use Rattle.source.specs.declared.Place.{Place}
-use Rattle.answers.specs.declared.taking.Taking.{Taking}
-use Rattle.answers.specs.declared.Load.{Load}
+use Rattle.refusals.specs.Numbers.{number}
+use Rattle.refusals.specs.Places.{place_of}
+use Rattle.refusals.specs.declared.Refusal.{Refusal}
+use Rattle.refusals.specs.declared.LoadError.{LoadError}
+use Rattle.answers.specs.Answers.{count_of}
+use Rattle.answers.specs.declared.Counts.{Counts}
 
--- ---- the end of a load
+-- Ok: the record passed, and the memory holds its token with those before. Err: by the number that the table gives.
+abbrev pub TakenAs : Form → Room → List Token → List ℕ → Result Build Refusal → List ℤ → (os bl rs : List ℕ) → Nodes → Type 0
+TakenAs form r ts part (Ok st) s os bl rs ns = (us : List Token) × (take_one form r ts part ≡ pass us) × Built us s os bl rs ns st
+TakenAs form r ts part (Err e) s os bl rs ns = take_one form r ts part ≡ refuse (number e)
 
--- the answer of a build that came to its end
-abbrev pub finished_as : Build → Finished → Load
-finished_as st (Finished.Packed n) = Load.Accepted (record { tokens = st.tokens; nodes = st.made; blob = st.used; table = n })
-finished_as st Finished.NoTokens = Load.Refused (record { number = 19; place = Place.Nowhere })
-finished_as st (Finished.Wanting b) = Load.Refused (record { number = 20; place = Place.Byte b })
-finished_as st Finished.NoTable = Load.Refused (record { number = 21; place = Place.Nowhere })
+-- Ok: the records passed, and the memory holds their tokens. Err: by the number and at the line that the table gives.
+abbrev pub RecordsAs : Form → Bool → Room → List ℕ → Result Build LoadError → List ℤ → (os bl rs : List ℕ) → Nodes → Type 0
+RecordsAs form partial r body (Ok st) s os bl rs ns =
+    (ts : List Token) × (load form partial r body ≡ finish partial r ts) × Built ts s os bl rs ns st
+RecordsAs form partial r body (Err e) s os bl rs ns = load form partial r body ≡ refused (number e.refusal) (place_of e.place)
 
--- "After 3 to 21 the vocabulary memory is emptied"
-abbrev pub left_by : Load → Memory → Memory
-left_by (Load.Accepted c) m = m
-left_by (Load.Refused f) m = emptied m
-
--- ---- the records of a source
-
--- no record is read yet
-abbrev pub begun_as : Build → Taking
-begun_as st = record { build = st; takes = false; id = 0; len = 0; at = 0; lines = 0; number = 0 }
-
--- the taking ends with this number
-abbrev pub stopped_as : Taking → ℕ → Taking
-stopped_as t n = record { build = t.build; takes = false; id = t.id; len = t.len; at = t.at; lines = t.lines; number = n }
-
--- one record more was read, and the next one starts at `next`
-abbrev pub past_as : Taking → ℕ → Taking
-past_as t next = record {
-  build = t.build;
-  takes = false;
-  id = t.id;
-  len = t.len;
-  at = next;
-  lines = t.lines + 1;
-  number = 0;
-}
-
--- and so the token that it states is to be taken, or its number ends the taking
-abbrev pub record_as : Taking → ℕ → Read → Taking
-record_as t next (Read.Found id n) = record {
-  build = t.build;
-  takes = true;
-  id = id;
-  len = n;
-  at = next;
-  lines = (past_as t next).lines;
-  number = 0;
-}
-record_as t next (Read.Refused n) = stopped_as (past_as t next) n
-
--- the token was taken, or its number ends the taking
-abbrev pub pushed_as : Taking → Pushed → Taking
-pushed_as t (Pushed.Taken st) = record {
-  build = st;
-  takes = false;
-  id = t.id;
-  len = t.len;
-  at = t.at;
-  lines = t.lines;
-  number = 0;
-}
-pushed_as t (Pushed.Refused n) = stopped_as t n
-
--- Number 0: the records passed, and the memory holds their tokens. Else refused, by the number and at the line that the table gives.
-pub record RecordsAs (form : Form) (partial : Bool) (r : Room) (body : List ℕ) (t : Taking) (s : List ℤ) (os bl rs : List ℕ) (ns : Nodes)
-    : Type 0 where
-  pub all : t.number ≡ 0 → (ts : List Token) × (load form partial r body ≡ finish partial r ts) × Built ts s os bl rs ns t.build
-  pub refusal : (t.number ≡ 0 → ⊥) → load form partial r body ≡ refused t.number (line t.lines)
+-- Ok: the source's tokens, their counts, and the memory that they leave where m was. Err: as the table has it.
+abbrev pub BuiltAs : Form → Bool → Room → List ℕ → Result Counts LoadError → (m m' : Memory) → Type 0
+BuiltAs form partial r body (Ok c) m m' =
+    (ts : List Token) × (load form partial r body ≡ accepted ts) × (count_of c ≡ counts_of ts) × (m' ≡ memory_of ts m)
+BuiltAs form partial r body (Err e) m m' = load form partial r body ≡ refused (number e.refusal) (place_of e.place)
