@@ -1,55 +1,39 @@
 -- What a literal's reader leaves, from a place inside the quotes on; a law for each way a turn can go. Assumes nothing.
-use mathlib.Core.Path.{◌≡◌, refl, sym, ap, ap₂, ◌∙◌, fun_ext, subst}
-use mathlib.Core.Logic.{◌⊎◌, inl, inr}
-use mathlib.Core.Bool.{Bool, true, false, ◌&&◌, ◌||◌, cond}
-use Rattle.std.specs.Prelude.{Option, None, Some}
-use Rattle.std.specs.Option.{option_or, option_map}
-use Rattle.spec.specs.Options.{bind}
-use mathlib.Core.List.{List, [], ◌∷◌, ◌++◌}
-use Prim.Native.Nat.{ℕ, zero, suc, ◌+◌, ◌-◌, ◌/◌, ◌%◌, ◌≤◌, ◌<◌}
-use native.Mathlib.Nat.{add-zero, zero-add, le_refl, le_of_lt}
+use Rattle.std.proofs.Common.{◌≡◌, refl, sym, ap, ◌∙◌, subst, ℕ, zero, suc, ◌+◌, ◌-◌, ◌/◌, ◌%◌, ◌≤◌, ◌<◌, Bool, true, false, ◌&&◌, ◌||◌}
+use Rattle.std.proofs.Common.{cond, Option, None, Some, option_map, List, [], ◌∷◌, ◌++◌, length, take, drop, get_or, set, eqb, leb, ltb}
+use Rattle.std.proofs.Common.{add-zero, zero-add, le_refl, lit≤, lit<, arith, true≢false, le_of_eq, length-drop, length-append}
+use Rattle.std.proofs.Common.{take-append-drop, take_all, length-take-le, eq-eqb, ne_eqb, le-leb}
+use Rattle.std.proofs.lemmas.Bool.{false≢true, lt-leb}
+use Rattle.std.specs.Option.{option_or}
+use lib.Pointwise.{pointwise}
+use lib.Seq.{sets, sets-eq, length-sets, set_out}
 use native.Mathlib.Decide.{dec_le}
-use native.Mathlib.Numerals.{add-one}
-use native.Mathlib.Omega.{arith}
-use lib.ListN.{length, take, drop, get_or, set, replicate, take-append-drop, get_or-append, length-append, length-drop}
-use lib.ListN.{drop_of_length-le}
-use lib.Seq.{drop-drop, take-suc, take_all, length-take-le, sets, sets-eq, length-sets, set_out}
-use lib.Dec.{eqb, leb, ltb, lit≤}
-use borrow.Author.Tests.{eq-eqb, ne_eqb, le-leb, lt-leb}
+use Rattle.spec.specs.Options.{bind}
 use Rattle.spec.specs.Lists.{over}
 use Rattle.spec.specs.Utf8.{◌to◌, within, utf8_of}
 use Rattle.spec.specs.Digits.{hex_run, octal_run}
-use Rattle.spec.specs.Literal.{Piece, Escapes, backslash, letter_b, letters, look_up, escaped, byte_escape, point_escape, escape}
-use Rattle.spec.specs.Literal.{more_letters}
-use Rattle.spec.specs.Literal.{octal_escape, escape2, escapes_of, piece_at, Read, bad, put, piece, inside, is_quote, quoted, read, literal}
-use Rattle.characters.specs.declared.Encoded.{Encoded}
-use Rattle.characters.specs.CharacterBytes.{encoded_as}
-use Rattle.literal.specs.Answers.{Left, left, stored}
+use Rattle.spec.specs.Literal.{Piece, Escapes, backslash, letter_b, letters, more_letters, look_up, escaped, byte_escape, point_escape}
+use Rattle.spec.specs.Literal.{escape, octal_escape, escape2, escapes_of, piece_at, Read, bad, put, inside, is_quote, quoted, read}
+use Rattle.spec.specs.Literal.{literal}
 use Rattle.escapes.specs.Answers.{piece_of}
 use Rattle.escapes.specs.declared.Piece.{Piece as Found}
-use Rattle.numbers.proofs.Numbers.{part-from, octal_three}
+use Rattle.literal.specs.Answers.{Left, left, stored}
+use Rattle.numbers.proofs.Numbers.{hex-long, octal-within, octal_three}
+
+-- the part of a slice from n on is what is left of it
+part-from : (n : ℕ) (s : List ℕ) → take (length s - n) (drop n s) ≡ drop n s
+part-from n s = take_all (length s - n) (drop n s) (le_of_eq (length-drop n s))
+
+pub part-length : (n : ℕ) (s : List ℕ) → length (take (length s - n) (drop n s)) ≡ length s - n
+part-length n s = rw part-from (length-drop n s)
 
 -- ── Stores ───────────────────────────────────────────────────────────
 
-pub sets_append : (l : List ℕ) (n : ℕ) (bs cs : List ℕ) → sets l n (bs ++ cs) ≡ sets (sets l n bs) (n + length bs) cs
+sets_append : (l : List ℕ) (n : ℕ) (bs cs : List ℕ) → sets l n (bs ++ cs) ≡ sets (sets l n bs) (n + length bs) cs
 sets_append l n [] cs = rw add-zero
 sets_append l n (b ∷ bs) cs =
     let e : suc n + length bs ≡ n + suc (length bs) = omega arith in
     sets_append (set l n b) (suc n) bs cs ∙ ap (λ (z : ℕ). sets (sets (set l n b) (suc n) bs) z cs) e
-
--- one more of the bytes that go to the places from n on
-pub sets_more : (l : List ℕ) (n i : ℕ) (bs : List ℕ) → i < length bs
-    → set (sets l n (take i bs)) (n + i) (get_or bs i 0) ≡ sets l n (take (i + 1) bs)
-sets_more l n i bs h =
-    let t : List ℕ = take i bs in
-    sym (ap (λ (z : List ℕ). sets l n z) (ap (λ (z : ℕ). take z bs) (add-one i) ∙ take-suc bs i 0 h)
-    ∙ sets_append l n t (get_or bs i 0 ∷ [])
-    ∙ ap (λ (z : ℕ). set (sets l n t) (n + z) (get_or bs i 0)) (length-take-le i bs (le_of_lt h)))
-
--- a byte of a character that stands in an array
-pub encoded-byte : (bs : List ℕ) (e : Encoded) (i : ℕ) → e ≡ encoded_as bs → i < length bs → get_or e.bytes i 0 ≡ get_or bs i 0
-encoded-byte bs e i q h =
-    ap (λ (z : Encoded). get_or z.bytes i 0) q ∙ get_or-append bs (replicate (4 - length bs) 0) 0 i h
 
 -- a store past the last cell changes nothing
 sets_out : (l : List ℕ) (n : ℕ) (bs : List ℕ) → length l ≤ n → sets l n bs ≡ l
@@ -60,7 +44,7 @@ sets_fit : (bs l : List ℕ) → length bs ≤ length l → sets l 0 bs ≡ over
 sets_fit bs l h = sets-eq bs l 0 (rw zero-add h) ∙ rw zero-add
 
 -- bytes that are stored from the start on stand over the first cells, as far as they fit
-pub sets_stored : (bs l : List ℕ) → sets l 0 bs ≡ stored bs l
+sets_stored : (bs l : List ℕ) → sets l 0 bs ≡ stored bs l
 sets_stored bs l = go (dec_le (length bs) (length l))
   where
     k : ℕ
@@ -76,7 +60,7 @@ sets_stored bs l = go (dec_le (length bs) (length l))
         ∙ sets_out (sets l 0 (take k bs)) (0 + length (take k bs)) (drop k bs) (rw (length-sets, e, zero-add) (le_refl k))
         ∙ sets_fit (take k bs) l (omega arith)
 
--- ── No piece stands for more bytes than it takes, nor takes more than ten
+-- ── No piece stands for more bytes than it takes, nor takes more than there are
 
 pub utf8_short : (c : ℕ) → length (utf8_of c) ≤ 4
 unfolding utf8_of
@@ -106,96 +90,103 @@ utf8_octal v (suc k) h z = rw (le-leb v 0x7FF (omega arith)) (go (leb v 0x7F))
     go true = omega arith
     go false = omega arith
 
-abbrev Short : Option Piece → Type 0
-Short None = Unit {0}
-Short (Some p) = (length p.bytes ≤ suc p.more) × (p.more ≤ 9)
+-- of a piece with s behind its first byte
+abbrev Short : List ℕ → Option Piece → Type 0
+Short s None = Unit {0}
+Short s (Some p) = (length p.bytes ≤ suc p.more) × (p.more ≤ length s)
 
-short_byte : (in_b : Bool) (s : List ℕ) → Short (byte_escape in_b s)
+short_byte : (in_b : Bool) (c : ℕ) (s : List ℕ) → Short (c ∷ s) (byte_escape in_b s)
 unfolding byte_escape bind
-short_byte in_b s = go in_b (hex_run 2 s)
+short_byte in_b c s = go in_b (hex_run 2 s) refl
   where
-    go : (b : Bool) (o : Option ℕ) → Short (escaped 3 (bind o (λ v. Some (cond b (v ∷ []) (utf8_of v)))))
-    go b None = tt
-    go true (Some v) = (lit≤ tt, lit≤ tt)
-    go false (Some v) = (utf8_short v, lit≤ tt)
+    go : (b : Bool) (o : Option ℕ) → hex_run 2 s ≡ o → Short (c ∷ s) (escaped 3 (bind o (λ v. Some (cond b (v ∷ []) (utf8_of v)))))
+    go b None e = tt
+    go true (Some v) e = let h = hex-long 2 v s e in (lit≤ tt, omega arith)
+    go false (Some v) e = let h = hex-long 2 v s e in (utf8_short v, omega arith)
 
-short_point : (n : ℕ) → 4 ≤ n → n ≤ 8 → (in_b : Bool) (s : List ℕ) → Short (point_escape n in_b s)
+short_point : (n : ℕ) → 4 ≤ n → (in_b : Bool) (c : ℕ) (s : List ℕ) → Short (c ∷ s) (point_escape n in_b s)
 unfolding point_escape bind
-short_point n l m in_b s = go (hex_run n s)
+short_point n l in_b c s = go (hex_run n s) refl
   where
     refused : ℕ → Bool
     refused v = in_b || (within (0xD800 to 0xDFFF) v || ltb 0x10FFFF v)
 
-    put_in : (v : ℕ) (c : Bool) → Short (escaped (suc n) (cond c None (Some (utf8_of v))))
-    put_in v true = tt
-    put_in v false = let h = utf8_short v in (omega arith, omega arith)
+    put_in : (v : ℕ) (t : Bool) → n ≤ length s → Short (c ∷ s) (escaped (suc n) (cond t None (Some (utf8_of v))))
+    put_in v true k = tt
+    put_in v false k = let h = utf8_short v in (omega arith, omega arith)
 
-    go : (o : Option ℕ) → Short (escaped (suc n) (bind o (λ v. cond (refused v) None (Some (utf8_of v)))))
-    go None = tt
-    go (Some v) = put_in v (refused v)
+    go : (o : Option ℕ) → hex_run n s ≡ o → Short (c ∷ s) (escaped (suc n) (bind o (λ v. cond (refused v) None (Some (utf8_of v)))))
+    go None e = tt
+    go (Some v) e = put_in v (refused v) (hex-long n v s e)
 
-short_octal : (in_b : Bool) (s : List ℕ) → Short (octal_escape in_b s)
+short_octal : (in_b : Bool) (s : List ℕ) → Short s (octal_escape in_b s)
 unfolding octal_escape
-short_octal in_b s = go in_b (octal_run 3 s).value (octal_run 3 s).count (octal_three s) (in_b && ltb 0xFF (octal_run 3 s).value)
+short_octal in_b s =
+    go in_b (octal_run 3 s).value (octal_run 3 s).count (octal_three s) (octal-within 0 3 s) (in_b && ltb 0xFF (octal_run 3 s).value)
   where
-    go : (b : Bool) (v k : ℕ) → (k ≤ 3) × (v < 512) × (k ≡ 0 → v < 1) → (c : Bool)
-        → Short (escaped k (cond c None (Some (cond b (v ∷ []) (utf8_of v)))))
-    go b v k h true = tt
-    go true v k h false = (omega arith, omega arith)
-    go false v k h false = (utf8_octal v k h.1 h.2, omega arith)
+    go : (b : Bool) (v k : ℕ) → (k ≤ 3) × (v < 512) × (k ≡ 0 → v < 1) → k ≤ length s → (c : Bool)
+        → Short s (escaped k (cond c None (Some (cond b (v ∷ []) (utf8_of v)))))
+    go b v k h m true = tt
+    go true v k h m false = (omega arith, m)
+    go false v k h m false = (utf8_octal v k h.1 h.2, m)
 
-short_letter : (ps : List (ℕ × ℕ)) (c : ℕ) → Short (escaped 1 (look_up ps c))
+short_letter : (ps : List (ℕ × ℕ)) (c : ℕ) (s : List ℕ) → Short (c ∷ s) (escaped 1 (look_up ps c))
 unfolding look_up
-short_letter [] c = tt
-short_letter (p ∷ ps) c = go (eqb c p.0) (short_letter ps c)
+short_letter [] c s = tt
+short_letter (p ∷ ps) c s = go (eqb c p.0) (short_letter ps c s)
   where
-    go : (t : Bool) → Short (escaped 1 (look_up ps c)) → Short (escaped 1 (cond t (Some (p.1 ∷ [])) (look_up ps c)))
-    go true h = (lit≤ tt, lit≤ tt)
+    go : (t : Bool) → Short (c ∷ s) (escaped 1 (look_up ps c)) → Short (c ∷ s) (escaped 1 (cond t (Some (p.1 ∷ [])) (look_up ps c)))
+    go true h = (lit≤ tt, omega arith)
     go false h = h
 
-short_escape : (in_b : Bool) (s : List ℕ) → Short (escape in_b s)
+short_escape : (in_b : Bool) (s : List ℕ) → Short s (escape in_b s)
 unfolding escape
 short_escape in_b [] = tt
 short_escape in_b (c ∷ s) = go (eqb c 0x78) (eqb c 0x75)
   where
-    go : (x u : Bool) → Short (cond x (byte_escape in_b s) (cond u (point_escape 4 in_b s) (escaped 1 (look_up letters c))))
-    go true u = short_byte in_b s
-    go false true = short_point 4 (lit≤ tt) (lit≤ tt) in_b s
-    go false false = short_letter letters c
+    go : (x u : Bool)
+        → Short (c ∷ s) (cond x (byte_escape in_b s) (cond u (point_escape 4 in_b s) (escaped 1 (look_up letters c))))
+    go true u = short_byte in_b c s
+    go false true = short_point 4 (lit≤ tt) in_b c s
+    go false false = short_letter letters c s
 
-short_or : (o p : Option Piece) → Short o → Short p → Short (option_or o p)
-short_or None p h k = k
-short_or (Some q) p h k = h
+short_or : (s : List ℕ) (o p : Option Piece) → Short s o → Short s p → Short s (option_or o p)
+short_or s None p h k = k
+short_or s (Some q) p h k = h
 
-short_escape2 : (in_b : Bool) (s : List ℕ) → Short (escape2 in_b s)
+short_escape2 : (in_b : Bool) (s : List ℕ) → Short s (escape2 in_b s)
 unfolding escape2
 short_escape2 in_b [] = tt
 short_escape2 in_b (c ∷ s) = go (within (0x30 to 0x37) c) (eqb c 0x55)
   where
     go : (o u : Bool)
-        → Short (cond o (octal_escape in_b (c ∷ s))
+        → Short (c ∷ s) (cond o (octal_escape in_b (c ∷ s))
         (cond u (point_escape 8 in_b s) (option_or (escaped 1 (look_up more_letters c)) (escape in_b (c ∷ s)))))
     go true u = short_octal in_b (c ∷ s)
-    go false true = short_point 8 (lit≤ tt) (lit≤ tt) in_b s
-    go false false = short_or (escaped 1 (look_up more_letters c)) _ (short_letter more_letters c) (short_escape in_b (c ∷ s))
+    go false true = short_point 8 (lit≤ tt) in_b c s
+    go false false = short_or (c ∷ s) (escaped 1 (look_up more_letters c)) _ (short_letter more_letters c s) (short_escape in_b (c ∷ s))
 
-short_edition : (edition : ℕ) (in_b : Bool) (s : List ℕ) → Short (escapes_of edition in_b s)
+short_edition : (edition : ℕ) (in_b : Bool) (s : List ℕ) → Short s (escapes_of edition in_b s)
 unfolding escapes_of
 short_edition edition in_b s = go (eqb edition 2)
   where
-    go : (t : Bool) → Short (cond t escape2 escape in_b s)
+    go : (t : Bool) → Short s (cond t escape2 escape in_b s)
     go true = short_escape2 in_b s
     go false = short_escape in_b s
 
--- a set of escapes whose pieces are short
-module _ (escapes : Escapes) (short : (in_b : Bool) (s : List ℕ) → Short (escapes in_b s)) where
-  short-piece : (in_b : Bool) (quote b : ℕ) (s : List ℕ) (p : Piece) → piece_at escapes in_b quote b s ≡ Some p → Short (Some p)
-  short-piece in_b quote b s p e = subst Short e (go (eqb b backslash) (eqb b quote || (in_b && leb 0x80 b)))
-    where
-      go : (x y : Bool) → Short (cond x (escapes in_b s) (cond y None (Some (record { bytes = b ∷ []; more = 0 }))))
-      go true y = short in_b s
-      go false true = tt
-      go false false = (lit≤ tt, lit≤ tt)
+-- what stands at a byte b, in an edition
+pub bounds : (edition : ℕ) (in_b : Bool) (quote b : ℕ) (s : List ℕ) (p : Piece) → piece_at (escapes_of edition) in_b quote b s ≡ Some p
+    → (length p.bytes ≤ suc p.more) × (p.more ≤ length s)
+bounds edition in_b quote b s p e = subst (Short s) e (go (eqb b backslash) (eqb b quote || (in_b && leb 0x80 b)))
+  where
+    go : (x y : Bool) → Short s (cond x (escapes_of edition in_b s) (cond y None (Some (record { bytes = b ∷ []; more = 0 }))))
+    go true y = short_edition edition in_b s
+    go false true = tt
+    go false false = (lit≤ tt, omega arith)
+
+-- the piece that the code finds is the one that stands there
+pub found : (f q : Found) (at : Option Piece) → Some (piece_of f) ≡ at → f ≡ q → at ≡ Some (piece_of q)
+found f q at e i = sym e ∙ ap (λ (z : Found). Some (piece_of z)) i
 
 -- ── A turn ───────────────────────────────────────────────────────────
 
@@ -214,83 +205,32 @@ module _ (escapes : Escapes) (in_b : Bool) (quote : ℕ) where
   inside-drop (b ∷ s) zero = refl
   inside-drop (b ∷ s) (suc k) = inside-drop s k
 
-  -- one step, and what stands behind it
-  inside-step : (s : List ℕ) → 0 < length s
-      → inside escapes in_b quote s 0
-      ≡ piece (piece_at escapes in_b quote (get_or s 0 0) (drop 1 s)) (λ k. inside escapes in_b quote (drop (suc k) s) 0)
-  unfolding inside
-  inside-step [] h = absurd (omega arith)
-  inside-step (b ∷ s) h = ap (piece (piece_at escapes in_b quote b s)) (fun_ext (inside-drop s))
+  -- what is read of s
+  abbrev from : List ℕ → Read
+  from s = inside escapes in_b quote s 0
 
-  module _ (text : List ℕ) (i : ℕ) where
-    -- what is read from the place i on
-    abbrev from : ℕ → Read
-    from k = inside escapes in_b quote (drop k text) 0
-
-    -- what stands at the place i
-    abbrev at : Option Piece
-    at = piece_at escapes in_b quote (get_or (drop i text) 0 0) (drop 1 (drop i text))
-
-    step-at : i < length text → from i ≡ piece at (λ k. inside escapes in_b quote (drop (suc k) (drop i text)) 0)
-    step-at h = let l = length-drop i text in inside-step (drop i text) (omega arith)
-
-    turn-bad : i < length text → at ≡ None → from i ≡ bad
-    turn-bad h e = step-at h ∙ rw e
-
-    turn-piece : (p : Piece) → i < length text → at ≡ Some p → from i ≡ put p.bytes (from (i + (1 + p.more)))
-    turn-piece p h e =
-        let z : 1 + p.more ≡ suc p.more = omega arith in
-        step-at h ∙ rw (e, drop-drop, z)
-
-    turn_end : length text ≤ i → from i ≡ record { bytes = []; good = true }
-    unfolding inside
-    turn_end h = rw (drop_of_length-le text h)
-
-    -- what the code finds in the part from i on
-    pub here : (r q : Found) → piece_of r ≡ piece_at escapes in_b quote (get_or (take (length text - i) (drop i text)) 0 0)
-        (drop 1 (take (length text - i) (drop i text))) → r ≡ q → at ≡ piece_of q
-    here r q e f =
-        sym (e ∙ ap (λ (s : List ℕ). piece_at escapes in_b quote (get_or s 0 0) (drop 1 s)) (part-from i text)) ∙ ap piece_of f
-
-    module _ (l : List ℕ) (n : ℕ) where
+  module _ (l : List ℕ) (n : ℕ) where
+    module _ (rest : List ℕ) (b : ℕ) (s : List ℕ) (first : rest ≡ b ∷ s) where
       -- the literal is bad from here on
-      pub goes-bad : i < length text → at ≡ None → record { cells = l; answer = None } ≡ left l n (from i)
-      unfolding left
-      goes-bad h e = rw (turn-bad h e)
+      pub goes-bad : piece_at escapes in_b quote b s ≡ None → left l n (from rest) ≡ record { cells = l; answer = None }
+      unfolding left inside
+      goes-bad e = rw (first, e)
 
       -- a piece, written to the cells
-      pub goes_on : (p : Piece) (l' : List ℕ) (n' : ℕ) → i < length text → at ≡ Some p
-          → l' ≡ sets l n p.bytes → n' ≡ n + length p.bytes
-          → left l' n' (from (i + (1 + p.more))) ≡ left l n (from i)
-      goes_on p l' n' h e cells count =
-          ap₂ (λ (z : List ℕ) (k : ℕ). left z k (from (i + (1 + p.more)))) cells count
-          ∙ sym (left-put l n p.bytes (from (i + (1 + p.more))))
-          ∙ sym (ap (left l n) (turn-piece p h e))
+      pub goes-on : (p : Piece) → piece_at escapes in_b quote b s ≡ Some p → (l' : List ℕ) → l' ≡ sets l n p.bytes
+          → (n' : ℕ) → n' ≡ n + length p.bytes
+          → left l' n' (from (take (length s - p.more) (drop p.more s))) ≡ left l n (from rest)
+      unfolding inside
+      goes-on p e l' cells n' count =
+          rw (cells, count, first, e, part-from, inside-drop s p.more) (sym (left-put l n p.bytes (from (drop p.more s))))
 
-      -- the end
-      pub goes_end : length text ≤ i → record { cells = l; answer = Some n } ≡ left l n (from i)
-      unfolding left
-      goes_end h = rw (turn_end h, add-zero)
-
--- what stands at a place, in an edition
-pub bounds : (edition : ℕ) (in_b : Bool) (quote : ℕ) (text : List ℕ) (i : ℕ) (p : Piece)
-    → at (escapes_of edition) in_b quote text i ≡ Some p
-    → (length p.bytes ≤ suc p.more) × (p.more ≤ 9)
-bounds edition in_b quote text i p e =
-    short-piece (escapes_of edition) (short_edition edition) in_b quote (get_or (drop i text) 0 0) (drop 1 (drop i text)) p e
+    -- the end
+    pub goes-end : (rest : List ℕ) → length rest ≡ 0 → left l n (from rest) ≡ record { cells = l; answer = Some n }
+    unfolding left inside
+    goes-end [] e = rw add-zero
+    goes-end (b ∷ s) e = absurd (omega arith)
 
 -- ── The quotes ───────────────────────────────────────────────────────
-
-pub quote_yes : (b : ℕ) → (b ≡ 0x22) ⊎ (b ≡ 0x27) → is_quote b ≡ true
-quote_yes b (inr e) = rw (eq-eqb b 0x27 e)
-quote_yes b (inl e) = rw (eq-eqb b 0x22 e) (go (eqb b 0x27))
-  where
-    go : (c : Bool) → (c || true) ≡ true
-    go true = refl
-    go false = refl
-
-pub quote_no : (b : ℕ) → (b ≡ 0x22 → ⊥) → (b ≡ 0x27 → ⊥) → is_quote b ≡ false
-quote_no b m n = rw (ne_eqb b 0x27 n, ne_eqb b 0x22 m)
 
 module _ (escapes : Escapes) (in_b : Bool) (s : List ℕ) where
   pub too_short : length s < 2 → quoted escapes in_b s ≡ bad
@@ -320,20 +260,27 @@ unfolding left
 bad-start l r e = rw e
 
 module _ (edition : ℕ) where
-  pub read-empty : (s : List ℕ) → length s ≡ 0 → read edition s ≡ bad
+  pub read-bytes : (s q : List ℕ) → pointwise eqb (take 1 s) (letter_b ∷ []) ≡ true → q ≡ drop 1 s
+      → read edition s ≡ quoted (escapes_of edition) true q
   unfolding read
-  read-empty [] h = refl
-  read-empty (b ∷ s) h = absurd (omega arith)
+  read-bytes [] q e f = absurd (false≢true e)
+  read-bytes (b ∷ s) q e f = rw f (go (eqb b letter_b) e)
+    where
+      go : (t : Bool) → (t && true) ≡ true
+          → cond t (quoted (escapes_of edition) true s) (quoted (escapes_of edition) false (b ∷ s)) ≡ quoted (escapes_of edition) true s
+      go true e = refl
+      go false e = absurd (false≢true e)
 
-  pub read-bytes : (s : List ℕ) → 0 < length s → get_or s 0 0 ≡ letter_b → read edition s ≡ quoted (escapes_of edition) true (drop 1 s)
+  pub read-string : (s : List ℕ) → pointwise eqb (take 1 s) (letter_b ∷ []) ≡ false → read edition s ≡ quoted (escapes_of edition) false s
   unfolding read
-  read-bytes [] h e = absurd (omega arith)
-  read-bytes (b ∷ s) h e = rw (eq-eqb b letter_b e)
-
-  pub read-string : (s : List ℕ) → 0 < length s → (get_or s 0 0 ≡ letter_b → ⊥) → read edition s ≡ quoted (escapes_of edition) false s
-  unfolding read
-  read-string [] h n = absurd (omega arith)
-  read-string (b ∷ s) h n = rw (ne_eqb b letter_b n)
+  read-string [] e = sym (too_short (escapes_of edition) false [] (lit< tt))
+  read-string (b ∷ s) e = go (eqb b letter_b) e
+    where
+      go : (t : Bool) → (t && true) ≡ false
+          → cond t (quoted (escapes_of edition) true s) (quoted (escapes_of edition) false (b ∷ s))
+          ≡ quoted (escapes_of edition) false (b ∷ s)
+      go true e = absurd (true≢false e)
+      go false e = refl
 
   -- what the whole reading leaves is what the literal stands for
   pub finished : (s cells₀ cells : List ℕ) (answer : Option ℕ)

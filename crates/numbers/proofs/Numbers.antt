@@ -1,15 +1,16 @@
 -- Numbers in digits, read from a place of a list: one law for each way a turn of a reader can go. Assumes nothing.
 use Rattle.std.proofs.Common.{◌≡◌, refl, sym, ap, ◌∙◌, subst, ℕ, zero, suc, ◌+◌, ◌*◌, ◌-◌, ◌^◌, ◌≤◌, ◌<◌, min, zero-add, add-zero}
 use Rattle.std.proofs.Common.{add-one, Bool, true, false, Option, None, Some, List, [], ◌∷◌, length, take, drop, slice_range, get_or}
-use Rattle.std.proofs.Common.{arith, eqb, length-take, drop_of_length-le, drop-cons, le-leb, eqb-true, true≢false}
+use Rattle.std.proofs.Common.{⊎_elim, lit≤, arith, eqb, length-take, drop_of_length-le, drop-cons, le-leb, eqb-true, true≢false}
 use Rattle.std.proofs.Math.Nat.{sub-zero}
-use Rattle.std.proofs.lemmas.Bool.{false≢true, lt-leb}
+use Rattle.std.proofs.lemmas.Bool.{false≢true, lt-leb, cases_lt}
 use Rattle.spec.specs.Options.{bind}
 use Rattle.spec.specs.Utf8.{◌to◌, within}
 use Rattle.spec.specs.Digits.{digit, digits_after, at_most, digits, hex_digit, hex_after, hex_run, octal_digit, Octal, one_more}
 use Rattle.spec.specs.Digits.{octal_after, octal_run}
 use Rattle.laws.specs.Utf8Laws.{Out, inside, outside}
 use Rattle.numbers.proofs.HexCode.{by_code}
+use Rattle.laws.specs.OptionLaws.{none-ne-some}
 use Rattle.laws.specs.Tests.{all_below, below}
 use Rattle.laws.specs.LiteralLaws.{octal_grows, octal-some, octal-none, octal_count, octal_digits_lt, octal_run_lt}
 
@@ -106,6 +107,10 @@ hex-short v (suc n) (b ∷ s) h = go (hex_digit b) (λ (d : ℕ). hex-short (v *
     go None f = refl
     go (Some d) f = f d
 
+-- a run needs its digits
+pub hex-long : (n v : ℕ) (s : List ℕ) → hex_run n s ≡ Some v → n ≤ length s
+hex-long n v s e = ⊎_elim (λ (h : length s < n). absurd (none-ne-some v (sym (hex-short 0 n s h) ∙ e))) (λ (h : n ≤ length s). h) (cases_lt (length s) n)
+
 -- what a reader with the value v finds in the rest s, all of it
 unfoldable pub all_hex : ℕ → List ℕ → Option ℕ
 unfolding hex_after
@@ -197,6 +202,18 @@ module _ (s : List ℕ) (i v : ℕ) where
         rw (add-one, drop-cons s i 0 h, octal_after, inside (0x30 to 0x37) (get_or s i 0) (l, k), ← e, n)
 
 pub ruleset octals = (octal-start, octal-end, octal-other, octal-digit, octal_grows, length-take)
+
+-- octal digits are taken from those that are there
+pub octal-within : (v n : ℕ) (s : List ℕ) → (octal_after v n s).count ≤ length s
+unfolding octal_after
+octal-within v zero s = omega arith
+octal-within v (suc n) [] = lit≤ tt
+octal-within v (suc n) (b ∷ s) = go (octal_digit b) refl (λ (d : ℕ). octal-within (v * 8 + d) n s)
+  where
+    go : (o : Option ℕ) → octal_digit b ≡ o → ((d : ℕ) → (octal_after (v * 8 + d) n s).count ≤ length s)
+        → (octal_after v (suc n) (b ∷ s)).count ≤ suc (length s)
+    go None e f = rw (octal-none v n b s e) (omega arith)
+    go (Some d) e f = let h = f d in rw (octal-some v n b s d e) (omega arith)
 
 -- a run of at most three: its value is below 512, and 0 if there is no digit
 pub octal_three : (s : List ℕ)

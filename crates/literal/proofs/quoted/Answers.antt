@@ -1,31 +1,25 @@
--- `literal::quoted` meets its contract. Assumes nothing.
-use mathlib.Core.Path.{sym, ◌∙◌}
+-- Each test is one of `closed`.
+use Rattle.std.proofs.Common.{sym, ◌∙◌}
 use Rattle.spec.specs.Literal.{escapes_of}
 use Rattle.literal.proofs.QuotedTurns.{bad-start, too_short, no-quote, not-closed, all_closed}
 use Rattle.literal.proofs.quoted.Goals as goal
+use Rattle.literal.proofs.quoted.Goals.{then-not-is_quote-via-then-not-is_quote, then-not-is_quote-via-else-not-is_quote+then-last-quote}
 
-pub returns-then-text-lt2 : goal.returns-then-text-lt2
-returns-then-text-lt2 c = bad-start _ _ (too_short _ _ _ c.if-text-lt2.true)
+pub returns-in_default : goal.returns-in_default
+returns-in_default c = bad-start _ _ (too_short _ _ _ c.in_default.len_below)
 
 pub returns-then-not-is_quote : goal.returns-then-not-is_quote
 returns-then-not-is_quote c =
-    let if1 = c.if-text-lt2 in
-    bad-start _ _ (no-quote _ _ _ if1.false (sym c.is_quote.ensures ∙ c.if-not-is_quote.true))
-
-pub returns-then-text-end : goal.returns-then-text-end
-returns-then-text-end c =
-    let if1 = c.if-text-lt2 in
-    let is-quote = c.is_quote in
-    let if2 = c.if-not-is_quote in
-    bad-start _ _ (not-closed _ _ _ if1.false (sym is-quote.ensures ∙ if2.false) c.if-text-end.true)
+    let n = c.in-len2-up.len_at_least in
+    let q = sym c.is_quote.ensures in
+    elim c.then-not-is_quote.branch [
+      | then-not-is_quote-via-then-not-is_quote w ↦ bad-start _ _ (no-quote _ _ _ n (q ∙ w.if-not-is_quote.true))
+      | then-not-is_quote-via-else-not-is_quote+then-last-quote w ↦
+          bad-start _ _ (not-closed _ _ _ n (q ∙ w.if-not-is_quote.false) w.if-last-quote.true)
+    ]
 
 pub returns : goal.returns
 returns c =
-    let args = c.args in
-    let if1 = c.if-text-lt2 in
-    let is-quote = c.is_quote in
-    let if2 = c.if-not-is_quote in
-    let if3 = c.if-text-end in
-    let TheInside = c.inside in
-    all_closed (escapes_of args.edition) args.in_bytes args.text.now if1.false
-    (sym is-quote.ensures ∙ if2.false) if3.false args.res.now _ TheInside.ensures
+    let a = c.args in
+    all_closed (escapes_of a.edition) a.in_bytes a.text.now c.in-len2-up.len_at_least
+    (sym c.is_quote.ensures ∙ c.if-not-is_quote.false) c.if-last-quote.false a.res.now _ c.inside.ensures
