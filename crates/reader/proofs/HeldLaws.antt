@@ -1,12 +1,13 @@
--- The bytes that a record holds after a push, and the room that they need. Assumes nothing.
+-- The bytes that are held after a push, and the room that they need. Assumes nothing.
 use mathlib.Core.Path.{◌≡◌, refl}
 use mathlib.Core.List.{List, [], ◌∷◌}
 use Prim.Native.Nat.{ℕ, ◌-◌, ◌≤◌}
 use native.Mathlib.Omega.{arith}
-use lib.ListN.{length, take, replicate, length-take}
+use lib.ListN.{length, take, replicate}
 use lib.Seq.{take-append_seam}
 use Rattle.reader.specs.Reader.{push_of}
 use Rattle.reader.specs.declared.Held.{Held}
+use Rattle.reader.specs.declared.Held.TheVariants.{Nothing, One, Two, Three}
 use Rattle.spec.specs.Memory.{padded}
 use Rattle.reader.specs.HeldBytes.{held_of, held_as, pushed_as}
 use Rattle.reader.proofs.ReaderLaws.{push_few}
@@ -15,7 +16,7 @@ use Rattle.reader.proofs.ReaderLaws.{push_few}
 pub padded-take : (n : ℕ) (bytes : List ℕ) → take (length bytes) (padded bytes n) ≡ bytes
 padded-take n bytes = take-append_seam bytes (replicate (n - length bytes) 0)
 
--- a record of at most three bytes holds these
+-- at most three bytes are held as they are
 pub held_back : (h : List ℕ) → length h ≤ 3 → held_of (held_as h) ≡ h
 held_back [] k = refl
 held_back (a ∷ []) k = refl
@@ -24,7 +25,10 @@ held_back (a ∷ b ∷ c ∷ []) k = refl
 held_back (a ∷ b ∷ c ∷ d ∷ h) k = absurd (omega arith)
 
 pub held-few : (x : Held) → length (held_of x) ≤ 3
-held-few x = omega (arith, length-take x.len (x.first ∷ x.second ∷ x.third ∷ []))
+held-few Nothing = omega arith
+held-few (One a) = omega arith
+held-few (Two a b) = omega arith
+held-few (Three a b c) = omega arith
 
 -- What a push leaves is what the next one finds, and its bytes fit the array.
 pub pushed-held : (x : Held) (b : ℕ) → held_of (pushed_as (push_of (held_of x) b)).held ≡ (push_of (held_of x) b).held

@@ -1,15 +1,15 @@
 -- The turns of the lossy reader, as the code's tests tell them apart. Assumes nothing.
-use mathlib.Core.Path.{◌≡◌, refl, ap, ◌∙◌, sym}
+use mathlib.Core.Path.{◌≡◌, refl, sym}
 use mathlib.Core.Bool.{true, false}
 use Rattle.std.specs.Prelude.{None, Some}
 use mathlib.Core.List.{List, [], ◌∷◌, ◌++◌}
 use Prim.Native.Nat.{ℕ, zero, suc, ◌-◌, ◌≤◌, ◌<◌}
 use native.Mathlib.Nat.{sub-zero, zero-sub, suc-sub-suc}
 use native.Mathlib.Omega.{arith}
-use lib.ListN.{length, take, drop, replicate, length-take}
-use lib.Seq.{take-nil, drop-nil}
+use lib.ListN.{length, drop, replicate}
+use lib.Seq.{drop-nil}
 use Rattle.spec.specs.Utf8.{Range, ◌to◌, within, tail, grammar, after, replacement}
-use Rattle.reader.specs.Reader.{start, broken, taken, pushed, wants, push_of, finish_of}
+use Rattle.reader.specs.Reader.{start, broken, taken, pushed, wants, push_of}
 use Rattle.reader.proofs.ReaderLaws.{wants-two}
 use Rattle.utf8.specs.Means.{ranges}
 use Rattle.utf8.proofs.Ranges.{after-at, after-longer}
@@ -39,30 +39,6 @@ pub start-long : (b n low high : ℕ) → 0x80 ≤ b → Some (ranges n low high
 start-long b n low high h e = start-more b n low high e (λ z.
     omega (arith, after-longer b (ranges n low high) h e, no_ranges n low high z))
 
--- ── The held bytes, by their number ──────────────────────────────────
-
-module _ (n a b c : ℕ) where
-  pub held-0 : n ≡ 0 → take n (a ∷ b ∷ c ∷ []) ≡ []
-  held-0 e = rw e
-
-  pub held-1 : n ≡ 1 → take n (a ∷ b ∷ c ∷ []) ≡ a ∷ []
-  held-1 e = rw e
-
-  pub held-2 : n ≡ 2 → take n (a ∷ b ∷ c ∷ []) ≡ a ∷ b ∷ []
-  held-2 e = rw e
-
-  pub held-3 : 2 < n → take n (a ∷ b ∷ c ∷ []) ≡ a ∷ b ∷ c ∷ []
-  held-3 = go n
-    where
-      go : (n : ℕ) → 2 < n → take n (a ∷ b ∷ c ∷ []) ≡ a ∷ b ∷ c ∷ []
-      go zero h = absurd (omega arith)
-      go (suc zero) h = absurd (omega arith)
-      go (suc (suc zero)) h = absurd (omega arith)
-      go (suc (suc (suc n))) h = rw (take-nil n)
-
-  pub held-most : length (take n (a ∷ b ∷ c ∷ [])) ≤ 2 → n ≤ 2
-  held-most h = omega (arith, rw (length-take n (a ∷ b ∷ c ∷ [])) at h)
-
 -- ── What must follow them ────────────────────────────────────────────
 
 pub wants-nil : [] ≡ wants []
@@ -70,7 +46,7 @@ unfolding wants
 wants-nil = refl
 
 module _ (a : ℕ) (h : List ℕ) where
-  wants-none : None ≡ after a → [] ≡ wants (a ∷ h)
+  pub wants-none : None ≡ after a → [] ≡ wants (a ∷ h)
   unfolding wants
   wants-none e = rw (← e, drop-nil (length h))
 
@@ -86,21 +62,6 @@ drop-replicate (suc p) (suc n) a = rw (suc-sub-suc n p) (drop-replicate p n a)
 pub drop-ranges : (p n low high : ℕ) → drop (suc p) (ranges n low high) ≡ replicate (n - suc p) tail
 drop-ranges p zero low high = rw (zero-sub (suc p))
 drop-ranges p (suc n) low high = rw (suc-sub-suc n p) (drop-replicate p n tail)
-
-module _ (n a b c : ℕ) (z : n ≡ 0 → ⊥) where
-  pub held_none : None ≡ after a → [] ≡ wants (take n (a ∷ b ∷ c ∷ []))
-  held_none = go n z
-    where
-      go : (n : ℕ) → (n ≡ 0 → ⊥) → None ≡ after a → [] ≡ wants (take n (a ∷ b ∷ c ∷ []))
-      go zero z e = absurd (z refl)
-      go (suc n) z e = wants-none a (take n (b ∷ c ∷ [])) e
-
-  pub finish-some : record { out = replacement; held = [] } ≡ finish_of (take n (a ∷ b ∷ c ∷ []))
-  finish-some = go n z
-    where
-      go : (n : ℕ) → (n ≡ 0 → ⊥) → record { out = replacement; held = [] } ≡ finish_of (take n (a ∷ b ∷ c ∷ []))
-      go zero z = absurd (z refl)
-      go (suc n) z = refl
 
 -- ── A byte after them ────────────────────────────────────────────────
 
@@ -131,18 +92,8 @@ module _ (h : List ℕ) (b n low high : ℕ) where
       go (suc zero) z = absurd (omega arith)
       go (suc (suc n)) z = rw (o)
 
--- something must follow: something is held; two bytes or more must: at most two are
-module _ (k a b c : ℕ) where
-  pub some-held : (n low high : ℕ) → ranges n low high ≡ wants (take k (a ∷ b ∷ c ∷ [])) → (n ≡ 0 → ⊥) → 0 < k
-  some-held = go k
-    where
-      go : (k n low high : ℕ) → ranges n low high ≡ wants (take k (a ∷ b ∷ c ∷ [])) → (n ≡ 0 → ⊥) → 0 < k
-      go zero zero low high e z = absurd (z refl)
-      go zero (suc n) low high e z = absurd (omega (arith, ap length (e ∙ sym wants-nil)))
-      go (suc k) n low high e z = omega arith
-
-  pub few-held : (n low high : ℕ) → ranges n low high ≡ wants (take k (a ∷ b ∷ c ∷ [])) → 1 < n → k ≤ 2
-  few-held zero low high e z = absurd (omega arith)
-  few-held (suc zero) low high e z = absurd (omega arith)
-  few-held (suc (suc n)) low high e z =
-      held-most k a b c (wants-two (take k (a ∷ b ∷ c ∷ [])) (low to high) tail (replicate n tail) (sym e))
+-- two bytes or more must follow: at most two are held
+pub few-held : (h : List ℕ) (n low high : ℕ) → ranges n low high ≡ wants h → 1 < n → length h ≤ 2
+few-held h zero low high e z = absurd (omega arith)
+few-held h (suc zero) low high e z = absurd (omega arith)
+few-held h (suc (suc n)) low high e z = wants-two h (low to high) tail (replicate n tail) (sym e)

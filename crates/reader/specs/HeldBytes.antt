@@ -1,26 +1,32 @@
--- What the answers of the reader mean: the bytes that a record holds, those that go out, and what must follow. Assumes nothing.
-use Rattle.std.specs.Prelude.{List, [], ◌∷◌, ℕ, length, get_or, take}
+-- What the answers of the reader mean: the bytes that are held, those that go out, and what must follow. Assumes nothing.
+use Rattle.std.specs.Prelude.{List, [], ◌∷◌, ℕ, length, Option, None, Some}
 use Rattle.spec.specs.Utf8.{Range}
 use Rattle.reader.specs.Reader.{Turn}
 use Rattle.reader.specs.declared.Held.{Held}
+use Rattle.reader.specs.declared.Held.TheVariants.{Nothing, One, Two, Three}
 use Rattle.reader.specs.declared.Pushed.{Pushed}
 use Rattle.utf8.specs.declared.Lead.{Lead}
-use Rattle.utf8.specs.declared.Lead.TheVariants.{Nothing, Follow}
 use Rattle.spec.specs.Memory.{padded}
-use Rattle.utf8.specs.Means.{ranges}
+use Rattle.utf8.specs.Means.{lead_means}
 
 -- the ranges that must follow, none if it is nothing
-abbrev pub want_means : Lead → List Range
-want_means Nothing = []
-want_means (Follow n low high) = ranges n low high
+abbrev pub want_means : Option Lead → List Range
+want_means None = []
+want_means (Some lead) = lead_means lead
 
--- the bytes that a record holds
+-- the bytes that are held
 abbrev pub held_of : Held → List ℕ
-held_of x = take x.len (x.first ∷ x.second ∷ x.third ∷ [])
+held_of Nothing = []
+held_of (One a) = a ∷ []
+held_of (Two a b) = a ∷ b ∷ []
+held_of (Three a b c) = a ∷ b ∷ c ∷ []
 
--- the record of at most three bytes
+-- what holds at most three bytes
 abbrev pub held_as : List ℕ → Held
-held_as h = record { first = get_or h 0 0; second = get_or h 1 0; third = get_or h 2 0; len = length h }
+held_as [] = Nothing
+held_as (a ∷ []) = One a
+held_as (a ∷ b ∷ []) = Two a b
+held_as (a ∷ b ∷ c ∷ h) = Three a b c
 
 -- so many bytes go out, and these are held
 abbrev pub bringing : List ℕ → Held → Pushed

@@ -2,51 +2,30 @@
 // definition of specs/; that what goes out is the lossy text is `lossy-run` in proofs/ReaderLaws.antt.
 #![tactic(auto)]
 
-ghost use Rattle.std.specs.Prelude.{◌≡◌, [], ◌∷◌, ◌++◌, ◌-◌, ◌≤◌, ◌<◌, replicate};
+ghost use Rattle.std.specs.Prelude.{◌≡◌, [], ◌∷◌, ◌++◌, ◌-◌, ◌≤◌, replicate, length};
 ghost use Rattle.spec.specs.Utf8.{tail, replacement};
+ghost use Rattle.utf8.specs.Means.{lead_means};
 ghost use Rattle.reader.specs.Reader.{start, broken, taken, wants, push_of, finish_of};
 ghost use Rattle.reader.specs.HeldBytes.{want_means, held_of, held_as, bringing, pushed_as};
 
 use utf8::Lead;
 
-// The bytes of a character that has begun: the first `len` of the three, zeros after. A `len` above 3 counts as 3.
-#[derive(Clone, Copy)]
-pub struct Held {
-    pub first: u8,
-    pub second: u8,
-    pub third: u8,
-    pub len: u8,
+/// The bytes of a character that has begun.
+#[derive(Clone, Copy, Debug, PartialEq, Eq)]
+pub enum Held {
+    Nothing,
+    One(u8),
+    Two(u8, u8),
+    Three(u8, u8, u8),
 }
 
-// What a byte brings: `len` bytes to write out, zeros after, and what is held from then on.
-#[derive(Clone, Copy)]
+/// What a byte brings: `len` bytes to write out, zeros after, and what is held from then on.
+// Kept: an array with a length beside it, since there is no heap and up to six bytes go out.
+#[derive(Clone, Copy, Debug, PartialEq, Eq)]
 pub struct Pushed {
     pub bytes: [u8; 6],
     pub len: usize,
     pub held: Held,
-}
-
-// Nothing is held.
-pub fn fresh() -> Held
-    ensures { result ≡ held_as [] }
-{
-    Held {
-        first: 0,
-        second: 0,
-        third: 0,
-        len: 0,
-    }
-}
-
-fn begun(b: u8) -> Held
-    ensures { result ≡ held_as (b ∷ []) }
-{
-    Held {
-        first: b,
-        second: 0,
-        third: 0,
-        len: 1,
-    }
 }
 
 // Nothing goes out.
@@ -54,9 +33,9 @@ fn quiet(held: Held) -> Pushed
     ensures { result ≡ bringing [] held }
 {
     Pushed {
-        bytes: [0, 0, 0, 0, 0, 0],
+        bytes: [0; 6],
         len: 0,
-        held: held,
+        held,
     }
 }
 
@@ -67,7 +46,7 @@ fn replaced(held: Held) -> Pushed
     Pushed {
         bytes: [0xef, 0xbf, 0xbd, 0, 0, 0],
         len: 3,
-        held: held,
+        held,
     }
 }
 
@@ -75,144 +54,120 @@ fn replaced(held: Held) -> Pushed
 fn alone(b: u8) -> Pushed
     ensures { result ≡ pushed_as (start b) }
 {
-    if b < 0x80 {
-        return Pushed {
-            bytes: [b, 0, 0, 0, 0, 0],
-            len: 1,
-            held: fresh(),
-        };
-    }
-    let Lead::Follow(_, _, _) = utf8::lead_of(b) else {
-        return replaced(fresh());
+    let Some(lead) = utf8::lead_of(b) else {
+        return replaced(Held::Nothing);
     };
-    quiet(begun(b))
+    if lead.more == 0 {
+        Held::Nothing.complete(b)
+    } else {
+        quiet(Held::One(b))
+    }
 }
 
 // `b` after held bytes that it breaks off.
 fn breaking(b: u8) -> Pushed
     ensures { result ≡ pushed_as (broken (start b)) }
 {
-    let Lead::Follow(more, _, _) = utf8::lead_of(b) else {
+    let Some(lead) = utf8::lead_of(b) else {
         return Pushed {
             bytes: [0xef, 0xbf, 0xbd, 0xef, 0xbf, 0xbd],
             len: 6,
-            held: fresh(),
+            held: Held::Nothing,
         };
     };
-    if more == 0 {
+    if lead.more == 0 {
         Pushed {
             bytes: [0xef, 0xbf, 0xbd, b, 0, 0],
             len: 4,
-            held: fresh(),
+            held: Held::Nothing,
         }
     } else {
-        replaced(begun(b))
+        replaced(Held::One(b))
     }
 }
 
-// What is left to follow after `past` bytes of `more`.
-fn later(more: usize, past: usize) -> Lead
-    ensures { want_means result ≡ replicate (more - past) tail }
+// What is left to follow after `past` bytes behind the first.
+fn later(lead: Lead, past: usize) -> Lead
+    ensures { lead_means result ≡ replicate (lead.more - past) tail }
 {
-    if more <= past {
-        return Lead::Nothing;
+    Lead {
+        more: lead.more.saturating_sub(past),
+        low: 0x80,
+        high: 0xbf,
     }
-    Lead::Follow(more - past, 0x80, 0xbf)
 }
 
-// What must follow the held bytes.
-fn wanted(held: Held) -> Lead
-    ensures { want_means result ≡ wants (held_of held) }
-{
-    if held.len == 0 {
-        return Lead::Nothing;
+impl Held {
+    // What must follow the held bytes.
+    fn wanted(self) -> Option<Lead>
+        ensures { want_means result ≡ wants (held_of self) }
+    {
+        match self {
+            Held::Nothing => None,
+            Held::One(a) => utf8::lead_of(a),
+            Held::Two(a, _) => Some(later(utf8::lead_of(a)?, 1)),
+            Held::Three(a, _, _) => Some(later(utf8::lead_of(a)?, 2)),
+        }
     }
-    let Lead::Follow(more, low, high) = utf8::lead_of(held.first) else {
-        return Lead::Nothing;
-    };
-    if held.len == 1 {
-        return Lead::Follow(more, low, high);
-    }
-    if held.len == 2 {
-        return later(more, 1);
-    }
-    later(more, 2)
-}
 
-// The held bytes and `b` are a character: they go out.
-fn complete(held: Held, b: u8) -> Pushed
-    requires { 0 < held.len }
-    ensures { result ≡ pushed_as (taken [] (held_of held ++ b ∷ [])) }
-{
-    if held.len == 1 {
-        return Pushed {
-            bytes: [held.first, b, 0, 0, 0, 0],
-            len: 2,
-            held: fresh(),
+    // The held bytes and `b` are a character: they go out.
+    fn complete(self, b: u8) -> Pushed
+        ensures { result ≡ pushed_as (taken [] (held_of self ++ b ∷ [])) }
+    {
+        let (bytes, len) = match self {
+            Held::Nothing => ([b, 0, 0, 0, 0, 0], 1),
+            Held::One(first) => ([first, b, 0, 0, 0, 0], 2),
+            Held::Two(first, second) => ([first, second, b, 0, 0, 0], 3),
+            Held::Three(first, second, third) => ([first, second, third, b, 0, 0], 4),
         };
+        Pushed {
+            bytes,
+            len,
+            held: Held::Nothing,
+        }
     }
-    if held.len == 2 {
-        return Pushed {
-            bytes: [held.first, held.second, b, 0, 0, 0],
-            len: 3,
-            held: fresh(),
+
+    // The held bytes and `b` begin a character: they are held.
+    fn with(self, b: u8) -> Held
+        requires { length (held_of self) ≤ 2 }
+        ensures { result ≡ held_as (held_of self ++ b ∷ []) }
+    {
+        match self {
+            Held::Nothing => Held::One(b),
+            Held::One(first) => Held::Two(first, b),
+            Held::Two(first, second) | Held::Three(first, second, _) => {
+                Held::Three(first, second, b)
+            }
+        }
+    }
+
+    /// `b` after the held bytes: what goes out, and what is held.
+    pub fn push(self, b: u8) -> Pushed
+        ensures { result ≡ pushed_as (push_of (held_of self) b) }
+    {
+        let Some(lead) = self.wanted() else {
+            return alone(b);
         };
+        if lead.more == 0 {
+            return alone(b);
+        }
+        if !lead.allows(b) {
+            return breaking(b);
+        }
+        if lead.more == 1 {
+            self.complete(b)
+        } else {
+            quiet(self.with(b))
+        }
     }
-    Pushed {
-        bytes: [held.first, held.second, held.third, b, 0, 0],
-        len: 4,
-        held: fresh(),
-    }
-}
 
-// The held bytes and `b` begin a character: they are held.
-fn hold(held: Held, b: u8) -> Pushed
-    requires { (0 < held.len) × (held.len ≤ 2) }
-    ensures { result ≡ pushed_as (record { out = []; held = held_of held ++ b ∷ [] }) }
-{
-    if held.len == 1 {
-        return quiet(Held {
-            first: held.first,
-            second: b,
-            third: 0,
-            len: 2,
-        });
-    }
-    quiet(Held {
-        first: held.first,
-        second: held.second,
-        third: b,
-        len: 3,
-    })
-}
-
-// `b` after the held bytes: what goes out, and what is held.
-pub fn push(held: Held, b: u8) -> Pushed
-    ensures { result ≡ pushed_as (push_of (held_of held) b) }
-{
-    let Lead::Follow(more, low, high) = wanted(held) else {
-        return alone(b);
-    };
-    if more == 0 {
-        return alone(b);
-    }
-    if !utf8::in_range(b, low, high) {
-        return breaking(b);
-    }
-    if more == 1 {
-        complete(held, b)
-    } else {
-        hold(held, b)
-    }
-}
-
-// The end after the held bytes.
-pub fn finish(held: Held) -> Pushed
-    ensures { result ≡ pushed_as (finish_of (held_of held)) }
-{
-    if held.len == 0 {
-        quiet(fresh())
-    } else {
-        replaced(fresh())
+    /// The end after the held bytes.
+    pub fn finish(self) -> Pushed
+        ensures { result ≡ pushed_as (finish_of (held_of self)) }
+    {
+        match self {
+            Held::Nothing => quiet(Held::Nothing),
+            Held::One(_) | Held::Two(_, _) | Held::Three(_, _, _) => replaced(Held::Nothing),
+        }
     }
 }
