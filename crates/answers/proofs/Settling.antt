@@ -1,5 +1,5 @@
 -- The end of a load: the memory that the tokens leave, and the emptied memory, are the same from whatever the build went through.
-use Rattle.std.specs.Prelude.{◌≡◌, Bool, List, [], ◌++◌, ℕ, ◌≤◌, ◌<◌, ◌⊎◌, ℤ, negsuc, length, drop, replicate, Ok, Err}
+use Rattle.std.specs.Prelude.{◌≡◌, refl, Bool, List, [], ◌++◌, ℕ, ◌≤◌, ◌<◌, ◌⊎◌, ℤ, negsuc, length, drop, replicate, Ok, Err}
 use Rattle.std.proofs.Common.{sym, ap, ap₂, ◌∙◌, subst, inl, inr, arith}
 use Rattle.std.proofs.lemmas.List.{length-replicate}
 use Rattle.std.proofs.Math.Seq.{drop_at}
