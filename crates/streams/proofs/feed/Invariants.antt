@@ -1,8 +1,5 @@
-use Rattle.std.proofs.Common.{◌≡◌, suc, ◌-◌, ◌≤◌, length}
+use Rattle.std.proofs.Common.{◌≡◌, ◌≤◌, length}
 use Rattle.streams.proofs.feed.Given as goal
 
-abbrev pub invariant-loop-from : goal.invariant-loop-from
-invariant-loop-from g l = (l.n ≤ length l.ids) × (length l.ids ≡ length l.initial.ids)
-
-abbrev pub decreases-loop-from : goal.decreases-loop-from
-decreases-loop-from g l = suc (length l.words) - l.from
+abbrev pub invariant-loop-piece : goal.invariant-loop-piece
+invariant-loop-piece g l = goal.F-IsAlwaysCallable g l.seen × (l.n ≤ length l.ids) × (length l.ids ≡ length l.initial.ids)
