@@ -435,13 +435,16 @@ pub counts_of_built : {ts : List Token} {s : List ℤ} {os bl rs : List ℕ} {ns
 counts_of_built B = record { previous = B.previous; tokens = B.tokens; made = B.made; used = B.used }
 
 -- no room even for node 0
-pub admits_none : {ts : List Token} {s : List ℤ} {os bl rs : List ℕ} {ns : Nodes} {st : Build} → Built ts s os bl rs ns st → (t : Token)
-    (table : ℕ) → min (room ns) 4294967295 < st.made → admit (room_for ns bl table) ts t ≡ refuse 17
-admits_none {ts} {s} {os} {bl} {rs} {ns} B t table h =
-    push-refused ts t ns bl rs ns table NodesFull (record {
-      answer = answer_full ts B.valid t (room ns) B.node-room (let k = B.made in omega arith);
-      stands = λ n k. absurd (no_room≢made n k);
-    })
+module _ {ts : List Token} {s : List ℤ} {os bl rs : List ℕ} {ns : Nodes} {st : Build} (B : Built ts s os bl rs ns st) (t : Token)
+    (h : min (room ns) 4294967295 < st.made) where
+  pub enter-none : Grown ts t (room ns) (Err NodesFull) rs ns
+  enter-none = record {
+    answer = answer_full ts B.valid t (room ns) B.node-room (let k = B.made in omega arith);
+    stands = λ n k. absurd (no_room≢made n k);
+  }
+
+  pub admits_none : (table : ℕ) → admit (room_for ns bl table) ts t ≡ refuse 17
+  admits_none table = push-refused ts t ns bl rs ns table NodesFull enter-none
 
 -- a token with an id above the last one and 1 to 255 bytes
 pub reads_of : {ts : List Token} {s : List ℤ} {os bl rs : List ℕ} {ns : Nodes} {st : Build} → Built ts s os bl rs ns st → (t : Token)
@@ -449,7 +452,7 @@ pub reads_of : {ts : List Token} {s : List ℤ} {os bl rs : List ℕ} {ns : Node
     → 1 ≤ length t.bytes → length t.bytes ≤ 255 → Bytes t.bytes → Reads (last_id ts) t
 reads_of B t a b c d e = record { above = (let k = B.previous in omega arith); small = b; nonempty = c; short = d; bytes = e }
 
-same-built : {ts : List Token} {s s' : List ℤ} {os os' bl bl' rs : List ℕ} {ns : Nodes} {st : Build} → s' ≡ s → os' ≡ os → bl' ≡ bl
+pub same-built : {ts : List Token} {s s' : List ℤ} {os os' bl bl' rs : List ℕ} {ns : Nodes} {st : Build} → s' ≡ s → os' ≡ os → bl' ≡ bl
     → Built ts s os bl rs ns st → Built ts s' os' bl' rs ns st
 same-built {ts} {s} {s'} {os} {os'} {bl} {bl'} {rs} {ns} {st} a b c B =
     subst (λ (x : List ℤ). Built ts x os' bl' rs ns st) (sym a)

@@ -9,8 +9,9 @@ use Rattle.spec.specs.Trie.{node_count}
 use Rattle.spec.specs.Valid.{Valid}
 use Rattle.spec.specs.Memory.{length_before, single_list, blob_bytes, padded}
 use Rattle.spec.specs.Load.{Room, admit, last_id}
+use Rattle.loading.specs.Accepted.{Reads}
 use Rattle.nodes.specs.Run.{Nodes, room}
-use Rattle.nodes.specs.Stands.{Stands}
+use Rattle.nodes.specs.Stands.{Stands, Grown}
 use Rattle.nodes.specs.Insertion.{Entered}
 use Rattle.memory.specs.declared.MemoryMut.{MemoryMut}
 use Rattle.refusals.specs.Numbers.{number}
@@ -66,6 +67,11 @@ pub record Small (st : Build) : Type 0 where
 -- the room that a push is given: the table plays no part in it
 abbrev pub room_for : Nodes → List ℕ → ℕ → Room
 room_for ns bl table = record { nodes = room ns; blob = length bl; table = table }
+
+-- what entering a token among the nodes answers: roots and nodes stand for the tokens with it then, unless it is refused
+abbrev pub EnteredAs : List ℤ → List ℕ → Nodes → Build → Token → Entered → List ℕ → Nodes → Type 0
+EnteredAs s rs ns st t r rs' ns' =
+    (ts : List Token) (os bl : List ℕ) → Built ts s os bl rs ns st → Reads (last_id ts) t → Grown ts t (room ns) r rs' ns'
 
 -- Ok: 16 to 18 passed, and the memory holds the tokens with this one. Err: the refusal that the table gives.
 abbrev pub PushedAs : Room → List Token → Token → Result Build Refusal → List ℤ → List ℕ → List ℕ → List ℕ → Nodes → Type 0

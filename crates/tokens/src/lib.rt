@@ -1,7 +1,7 @@
 // The parts of a build that are lent no nodes: a build without tokens, and one token into `single`, the offsets and the blob.
 #![tactic(auto)]
 
-ghost use Rattle.std.specs.Prelude.{◌≡◌, not, List, [], ◌∷◌, ◌++◌, ℕ, ◌+◌, ◌≤◌, ◌<◌, min, ℤ, T, length, get_or};
+ghost use Rattle.std.specs.Prelude.{◌≡◌, not, List, [], ◌∷◌, ◌++◌, ℕ, ◌+◌, ◌≤◌, ◌<◌, min, ℤ, T, length, get_or, nat_lt};
 ghost use Rattle.std.proofs.lemmas.List.Edits.{sets};
 ghost use Rattle.spec.specs.Token.{Token};
 ghost use Rattle.spec.specs.Memory.{emptied};
@@ -113,6 +113,7 @@ pub fn is_full(most: u32, made: u32) -> bool
     ensures full { T result → (table : ℕ) (ts : List Token) (t : Token) (s : List ℤ) (os bl rs : List ℕ) (ns : Nodes) (st : Build)
         → Built ts s os bl rs ns st → most ≡ min (room ns) 4294967295 → made ≡ st.made → admit (room_for ns bl table) ts t ≡ refuse 17 }
     ensures goes { T (not result) → made ≤ most }
+    ensures same { result ≡ nat_lt most made }
 {
     most < made
 }
