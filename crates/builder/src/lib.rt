@@ -1,79 +1,89 @@
 // The builder: tokens into the vocabulary memory, one after another.
 #![tactic(auto)]
 
-ghost use Rattle.std.specs.Prelude.{◌≡◌, List, [], ℕ, ◌≤◌, ◌<◌, length, take};
+ghost use Rattle.std.specs.Prelude.{◌≡◌, List, ℕ, ◌≤◌, ◌<◌, length};
 ghost use Rattle.spec.specs.Token.{Token};
-ghost use Rattle.spec.specs.Memory.{memory};
 ghost use Rattle.spec.specs.Load.{Room, table_room};
 ghost use Rattle.laws.specs.Reads.{LongEnough};
+ghost use Rattle.memory.specs.Lent.{cells_in, SameSlices};
 ghost use Rattle.nodes.specs.Run.{room};
-ghost use Rattle.tokens.specs.Built.{Built, Kept, Small, room_for, PushedAs};
+ghost use Rattle.nodes.specs.Work.{SameWork};
+ghost use Rattle.nodes.specs.Stands.{RootsKept};
+ghost use Rattle.tokens.specs.Built.{Built, BuiltIn, EnteredAs, KeptIn, Small, room_for, PushedIn};
 ghost use Rattle.ending.specs.EndOfBuild.{FinishedAs};
 
-use ending::Finished;
-use nodes::Node;
-use tokens::{Build, Pushed};
+use memory::MemoryMut;
+use nodes::{Node, Work};
+use refusals::{LoadError, Refusal};
+use tokens::Build;
 
-// One more token, the first n bytes, with an id above the last and 1 to 255 bytes; or 16, 17 or 18.
-pub fn push(
-    single: &mut [i32],
-    offsets: &mut [u32],
-    blob: &mut [u8],
-    roots: &mut [u64],
+// A token's bytes among the nodes: how many there are then, or 16 or 17. One byte makes no node; the roots alone may change.
+fn enter(
+    memory: &mut MemoryMut,
     nodes: &mut [Node],
     st: Build,
     id: u16,
     bytes: &[u8],
-    n: usize,
-) -> Pushed
-    requires { LongEnough (memory single.old offsets.old [] roots.old []) × (1 ≤ n) × (n ≤ 255) × (n ≤ length bytes.now)
-        × (st.previous < id) × Small st }
-    ensures stands { (table : ℕ) (ts : List Token)
-        → Built ts single.old offsets.old blob.old roots.old nodes.old st
-        → PushedAs (room_for nodes.old blob.old table) ts (record { id = id; bytes = take n bytes.now }) result
-        single.new offsets.new blob.new roots.new nodes.new }
-    ensures kept { Kept single.old offsets.old roots.old
-        single.new offsets.new roots.new }
+) -> Result<u32, Refusal>
+    requires { LongEnough (cells_in memory.old) × (1 ≤ length bytes.now) × (1 ≤ st.made) }
+    ensures stands { EnteredAs memory.old.single.now memory.old.roots.now nodes.old st (record { id = id; bytes = bytes.now }) result
+        memory.new.roots.now nodes.new }
+    ensures kept { RootsKept memory.old.roots.now memory.new.roots.now }
+    ensures rest { (memory.new.single.now ≡ memory.old.single.now) × (memory.new.offsets.now ≡ memory.old.offsets.now)
+        × (memory.new.blob.now ≡ memory.old.blob.now) × (memory.new.table.now ≡ memory.old.table.now) }
+    ensures same { SameSlices memory.old memory.new }
 {
     let most = tokens::capacity(nodes.len());
     if tokens::is_full(most, st.made) {
-        return tokens::no_room();
+        return Err(Refusal::NodesFull);
     }
-    if n == 1 {
-        let entered = tokens::enter_one(single, st.made, bytes);
-        return tokens::push_entered(single, offsets, blob, st, id, bytes, n, entered);
+    if bytes.len() == 1 {
+        return tokens::enter_one(memory.as_memory().single, st.made, bytes);
     }
-    let entered = trie::insert(roots, nodes, most, st.made, bytes, n, id);
-    tokens::push_entered(single, offsets, blob, st, id, bytes, n, entered)
+    trie::insert(&mut *memory.roots, nodes, most, st.made, bytes, id)
 }
 
-// The end of a build: the offsets behind the last id, the roots and the table. The runs of marks are work memory.
+/// One more token, with an id above the last and 1 to 255 bytes; or 16, 17 or 18. The table stays as it is.
+pub fn push(
+    memory: &mut MemoryMut,
+    nodes: &mut [Node],
+    st: Build,
+    id: u16,
+    bytes: &[u8],
+) -> Result<Build, Refusal>
+    requires { LongEnough (cells_in memory.old) × (1 ≤ length bytes.now) × (length bytes.now ≤ 255) × (st.previous < id)
+        × Small st }
+    ensures stands { (table : ℕ) (ts : List Token) → BuiltIn ts memory.old nodes.old st
+        → PushedIn (room_for nodes.old memory.old.blob.now table) ts (record { id = id; bytes = bytes.now }) result
+        memory.new nodes.new }
+    ensures kept { KeptIn memory.old memory.new }
+    ensures table { memory.new.table.now ≡ memory.old.table.now }
+    ensures same { SameSlices memory.old memory.new }
+{
+    let entered = enter(memory, nodes, st, id, bytes);
+    tokens::push_entered(memory, st, id, bytes, entered)
+}
+
+/// The end of a build: the offsets behind the last id, the roots and the table. The work memory may hold anything then.
 pub fn finish(
     partial: bool,
-    single: &[i32],
-    offsets: &mut [u32],
-    roots: &mut [u64],
-    table: &mut [u64],
-    nodes: &mut [Node],
-    used: &mut [u64],
-    used_bases: &mut [u64],
+    memory: &mut MemoryMut,
+    work: &mut Work,
     st: Build,
-) -> Finished
-    requires { LongEnough (memory single.now offsets.old [] roots.old []) × (1 ≤ st.made)
-        × (0 < st.tokens → st.made ≤ room nodes.old) }
+) -> Result<u32, LoadError>
+    requires { LongEnough (cells_in memory.old) × (1 ≤ st.made) × (0 < st.tokens → st.made ≤ room work.old.nodes.now) }
     ensures stands { (blob : List ℕ) (most : Room) (ts : List Token)
-        → most.table ≡ table_room (length table.old) (length used.old) (length used_bases.old)
-        → Built ts single.now offsets.old blob roots.old nodes.old st
-        → FinishedAs partial most ts result offsets.old roots.old table.old
-        offsets.new roots.new table.new }
-    ensures kept { Kept single.now offsets.old roots.old
-        single.now offsets.new roots.new }
+        → most.table ≡ table_room (length memory.old.table.now) (length work.old.used.now) (length work.old.used_bases.now)
+        → Built ts memory.old.single.now memory.old.offsets.now blob memory.old.roots.now work.old.nodes.now st
+        → FinishedAs partial most ts result memory.old.offsets.now memory.old.roots.now memory.old.table.now
+        memory.new.offsets.now memory.new.roots.now memory.new.table.now }
+    ensures kept { KeptIn memory.old memory.new }
+    ensures rest { (memory.new.single.now ≡ memory.old.single.now) × (memory.new.blob.now ≡ memory.old.blob.now) }
+    ensures same { SameSlices memory.old memory.new }
+    ensures same_work { SameWork work.old work.new }
 {
-    let stop = ending::stop_of(partial, single, st);
-    if ending::is_stop(stop) {
-        return ending::finished_by(stop);
-    }
-    ending::set_total(offsets, st.previous, st.used);
-    let packed = packing::pack(nodes, st.made, roots, table, used, used_bases);
+    ending::stop_of(partial, memory.as_memory().single, st)?;
+    tokens::set_offsets(&mut *memory.offsets, st.previous, 65536, st.used);
+    let packed = packing::pack(work, st.made, &mut *memory.roots, &mut *memory.table);
     ending::finished_of(packed)
 }
