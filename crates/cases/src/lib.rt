@@ -3,7 +3,6 @@
 
 ghost use Rattle.std.specs.Prelude.{◌≤◌, length, IfOk};
 
-use numbers::Number;
 use std::io;
 use std::io::Read;
 
@@ -12,6 +11,7 @@ pub fn read_full<R: Input>(rt: &R, input: &mut [u8]) -> io::Result<usize>
     ensures { IfOk result (λ n. n ≤ length input.new) }
 {
     let mut reader = rt.reader();
+    // Kept: one read gives any number of bytes, so no range gives the places.
     let mut at = 0;
     while at < input.len() {
         let n = reader.read(&mut input[at..])?;
@@ -34,70 +34,43 @@ pub fn write_number(rt: &impl Print, n: u64) -> io::Result<()> {
 // Bytes in hexadecimal, in brackets.
 pub fn write_bytes(rt: &impl Print, bytes: &[u8]) -> io::Result<()> {
     write(rt, b"[")?;
-    let mut i = 0;
-    while i < bytes.len() {
-        let byte = bytes[i];
+    for byte in bytes {
         print!(rt; "{byte:02x}")?;
-        i += 1;
     }
     write(rt, b"]")
 }
 
 // The first count ids.
 pub fn write_ids(rt: &impl Print, ids: &[u32], count: usize) -> io::Result<()> {
-    let mut i = 0;
-    while i < ids.len() {
-        if count <= i {
-            return Ok(());
-        }
-        write(rt, b" ")?;
-        write_number(rt, cells::u32_to_u64(ids[i]))?;
-        i += 1;
+    for id in ids.iter().take(count) {
+        print!(rt; " {id}")?;
     }
     Ok(())
 }
 
-// The byte that two hexadecimal digits spell, 0 if they do not.
-fn byte_of(high: u8, low: u8) -> u8 {
-    let Number::Value(h) = numbers::hex_digit(high) else {
-        return 0;
-    };
-    let Number::Value(l) = numbers::hex_digit(low) else {
-        return 0;
-    };
-    (h % 16 * 16 + l % 16) as u8
+// The byte that two hexadecimal digits spell, none if they do not.
+fn byte_of(high: u8, low: u8) -> Option<u8> {
+    let high = numbers::hex_digit(high)?;
+    let low = numbers::hex_digit(low)?;
+    Some((high * 16 + low) as u8)
 }
 
-// The bytes that `text` spells in hexadecimal go to `out`, as far as they fit; how many.
+// The bytes that `text` spells in hexadecimal go to `out`, as far as they fit, 0 for two bytes that spell none; how many.
 pub fn unhex(text: &[u8], out: &mut [u8]) -> usize
     ensures { result ≤ length out.old }
 {
-    let mut n = 0;
-    while n < out.len() {
-        if text.len() / 2 <= n {
-            return n;
-        }
-        out[n] = byte_of(text[2 * n], text[2 * n + 1]);
-        n += 1;
+    for (cell, pair) in out.iter_mut().zip(text.chunks_exact(2)) {
+        *cell = byte_of(pair[0], pair[1]).unwrap_or(0);
     }
-    n
-}
-
-fn id_of(high: u8, middle: u8, low: u8) -> u32 {
-    (high as u32) * 65536 + (middle as u32) * 256 + (low as u32)
+    out.len().min(text.len() / 2)
 }
 
 // The ids that bytes spell, three to an id; how many.
 pub fn read_ids(bytes: &[u8], ids: &mut [u32]) -> usize
     ensures { result ≤ length ids.old }
 {
-    let mut n = 0;
-    while n < ids.len() {
-        if bytes.len() / 3 <= n {
-            return n;
-        }
-        ids[n] = id_of(bytes[3 * n], bytes[3 * n + 1], bytes[3 * n + 2]);
-        n += 1;
+    for (id, part) in ids.iter_mut().zip(bytes.chunks_exact(3)) {
+        *id = u32::from_be_bytes([0, part[0], part[1], part[2]]);
     }
-    n
+    ids.len().min(bytes.len() / 3)
 }
