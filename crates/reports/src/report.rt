@@ -3,8 +3,8 @@ ghost use Rattle.std.specs.Prelude.{◌≡◌};
 ghost use Rattle.spec.specs.Answer as spec;
 ghost use Rattle.reports.specs.Report.{answer_is, report_of};
 
-// A number of document 01, 0 if none, and its values.
-#[derive(Clone, Copy)]
+/// A number of document 01, 0 if none, and its values.
+#[derive(Clone, Copy, Debug, PartialEq, Eq)]
 pub struct Answer {
     pub number: u32,
     pub count: u64,
@@ -12,32 +12,36 @@ pub struct Answer {
     pub value: u64,
 }
 
-// A number that carries nothing.
-pub fn bare(number: u32) -> Answer
-    ensures { answer_is result ≡ spec.bare number }
-{
-    Answer {
-        number,
-        count: 0,
-        place: 0,
-        value: 0,
+impl Answer {
+    /// A number that carries nothing.
+    pub fn bare(number: u32) -> Answer
+        ensures { answer_is result ≡ spec.bare number }
+    {
+        Answer {
+            number,
+            count: 0,
+            place: 0,
+            value: 0,
+        }
     }
-}
 
-// Number 0, with its count.
-pub fn whole(count: usize) -> Answer
-    ensures { answer_is result ≡ spec.whole count }
-{
-    Answer {
-        number: 0,
-        count: count as u64,
-        place: 0,
-        value: 0,
+    /// Number 0, with its count.
+    pub fn whole(count: usize) -> Answer
+        ensures { answer_is result ≡ spec.whole count }
+    {
+        Answer {
+            number: 0,
+            count: count as u64,
+            place: 0,
+            value: 0,
+        }
     }
-}
 
-pub fn write_report(answer: Answer, report: &mut [u64; 3])
-    ensures { report.new ≡ report_of (answer_is answer) }
-{
-    *report = [answer.count, answer.place, answer.value];
+    /// The number, with the values in the report: count, place, value.
+    pub fn report_to(self, report: &mut [u64; 3]) -> u32
+        ensures { (result ≡ self.number) × (report.new ≡ report_of (answer_is self)) }
+    {
+        *report = [self.count, self.place, self.value];
+        self.number
+    }
 }

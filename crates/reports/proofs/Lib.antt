@@ -1,2 +1,0 @@
--- What the proofs of the calls by value share.
-pub mod Leaving

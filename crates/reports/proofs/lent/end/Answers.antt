@@ -1,6 +1,0 @@
--- `reports::lent::end` meets its contract: what the call below it ensures, as numbers. Assumes nothing.
-use Rattle.reports.proofs.Leaving.{leaves}
-use Rattle.reports.proofs.lent.end.Goals as goal
-
-pub returns : goal.returns
-returns c = leaves c.end-called.ensures c.reported.ensures
