@@ -24,8 +24,8 @@ use Rattle.slots.specs.Marks.{slot_on, mark_all, Bounds, open_on, start_on}
 use Rattle.slots.proofs.Place.{first-get, from_top, chosen, slot-past, marks_then}
 use Rattle.slots.proofs.Find.{bit-of_ones}
 use Rattle.slots.proofs.Starts.{start-cases, start-in}
-use Rattle.slots.specs.Going.{MarksOk, CursorsOk, FrontOk, Going, Sought, Marked, PlacedPast, MarkedOr, PlacedOr}
-use Rattle.std.specs.Prelude.{Option, Some, None}
+use Rattle.slots.specs.Going.{MarksOk, CursorsOk, FrontOk, Going, PlacedPast}
+use Rattle.std.specs.Prelude.{None}
 
 module _ (L : List ℕ → List ℕ) where
   -- ---- what was refused stays refused
@@ -84,8 +84,15 @@ module _ (L : List ℕ → List ℕ) where
 
   -- ---- one node more: its slot and its marks
 
+  -- a search for the slot of node p that begins at word `start`: all that lies before is refused
+  pub record Sought (xs : List Put) (p : List ℕ) (U B : List ℕ) (start end : ℕ) : Type 0 where
+    pub small : ByteLabels L
+    pub marks : MarksOk L xs U B end
+    pub low : 4 ≤ start
+    pub before : (s : ℕ) → 256 ≤ s → s < start * 64 → free L xs (L p) (bit_xor s (first (L p))) ≡ false
+
   -- by its labels, as the code has them
-  module _ (xs : List Put) (p : List ℕ) (U B : List ℕ) (start end : ℕ) (S : Sought L xs p U B start end) (bounds : Bounds U B start end)
+  module _ (xs : List Put) (p : List ℕ) (U B : List ℕ) (start end : ℕ) (S : Sought xs p U B start end) (bounds : Bounds U B start end)
       (ls : List ℕ) (el : ls ≡ L p) (have : 1 ≤ length ls) where
     abbrev slot : ℕ
     slot = slot_on U B start end (L p)
@@ -122,15 +129,14 @@ module _ (L : List ℕ → List ℕ) where
       sought-past h = record { answer = refl; past = past_end (subst (λ (z : ℕ). end * 64 ≤ z) slot-now h) }
 
       pub sought-at : (b : ℕ) (U' B' : List ℕ) → s < end * 64 → b ≡ bit_xor s (get_or ls 0 0) → U' ≡ mark_all b U ls → B' ≡ mark B b
-          → Marked L xs p end U' B' (Some b)
+          → (b ≡ choose L xs (L p)) × MarksOk L (put L xs p) U' B' end
       sought-at b U' B' h eb eu em =
           let lt = subst (λ (z : ℕ). z < end * 64) slot-now h in
-          let e : b ≡ bit_xor slot (get_or (L p) 0 0) = eb ∙ ap₂ (λ (x : ℕ) (k : List ℕ). bit_xor x (get_or k 0 0)) slot-now el in
-          record {
-            answer = ap Some (e ∙ at-choice lt);
-            marks = subst (λ (X : List ℕ). MarksOk L (put L xs p) X B' end) (sym (eu ∙ ap (mark_all b U) el))
-                (subst (λ (Y : List ℕ). MarksOk L (put L xs p) (mark_all b U (L p)) Y end) (sym em) (marks-more b lt e));
-          }
+          let e : b ≡ bit_xor slot (get_or (L p) 0 0) = eb ∙ ap₂ (λ (x : ℕ) (k : List ℕ). bit_xor x (get_or k 0 0)) slot-now el in (
+            e ∙ at-choice lt,
+            subst (λ (X : List ℕ). MarksOk L (put L xs p) X B' end) (sym (eu ∙ ap (mark_all b U) el))
+                (subst (λ (Y : List ℕ). MarksOk L (put L xs p) (mark_all b U (L p)) Y end) (sym em) (marks-more b lt e)),
+          )
 
   -- ---- its cursor
 
@@ -177,26 +183,14 @@ module _ (L : List ℕ → List ℕ) where
   -- ---- the step: the node is placed by `choose`, or its slot lies past the capacity
 
   pub sought : (xs : List Put) (p : List ℕ) (U B C : List ℕ) (from high end : ℕ) → Going L xs U B C from high end → from ≤ end
-      → (ls : List ℕ) → ls ≡ L p → 1 ≤ length ls → (begin : ℕ) → begin ≡ start_on C ls from end → Sought L xs p U B begin end
+      → (ls : List ℕ) → ls ≡ L p → 1 ≤ length ls → (begin : ℕ) → begin ≡ start_on C ls from end → Sought xs p U B begin end
   sought xs p U B C from high end G h ls el have begin eb =
-      subst (λ (z : ℕ). Sought L xs p U B z end) (sym (eb ∙ ap (λ (k : List ℕ). start_on C k from end) el)) record {
+      subst (λ (z : ℕ). Sought xs p U B z end) (sym (eb ∙ ap (λ (k : List ℕ). start_on C k from end) el)) record {
         small = G.small;
         marks = G.marks;
         low = (let a = G.front.low in let b = (start-in C (L p) from end h).0 in omega arith);
         before = skipped G.small xs p (subst (λ (k : List ℕ). 1 ≤ length k) el have) C from high end G.front G.cursors;
       }
-
-  module _ (xs : List Put) (p : List ℕ) (end : ℕ) (U' B' C' : List ℕ) where
-    pub stands_none : (r : Option ℕ) → MarkedOr L xs p end U' B' r → r ≡ None → PlacedOr L xs p end U' B' C' None
-    stands_none r (inl M) i = let no : None ≡ Some (choose L xs (L p)) = sym i ∙ M.answer in cc
-    stands_none r (inr P) i = inr (record { answer = refl; past = P.past })
-
-    pub stands_at : (r : Option ℕ) (b : ℕ) → MarkedOr L xs p end U' B' r → r ≡ Some b
-        → (b ≡ choose L xs (L p) → CursorsOk L (put L xs p) C') → PlacedOr L xs p end U' B' C' (Some b)
-    stands_at r b (inl M) i K =
-        let is : Some b ≡ Some (choose L xs (L p)) = sym i ∙ M.answer in
-        inl (record { answer = is; marks = M.marks; cursors = K (let f : b ≡ choose L xs (L p) = cc in f) })
-    stands_at r b (inr P) i K = let no : None ≡ Some b = sym P.answer ∙ i in cc
 
   -- the first word that is not full, after a node more
   pub front-then : (xs : List Put) (p : List ℕ) (U B : List ℕ) (from high end b : ℕ) → FrontOk L xs from high end

@@ -2,7 +2,7 @@
 -- Assumes nothing.
 use Rattle.std.specs.Prelude.{◌≡◌, ◌⊎◌, true, false, List, [], ◌∷◌, ℕ, ◌+◌, ◌*◌, ◌/◌, ◌≤◌, ◌<◌, max, get_or, Option, Some, None}
 use Rattle.std.specs.Int.Bits.{bit_xor}
-use Rattle.spec.specs.Layout.{Put, used, taken, free, words, top, first, choose, put}
+use Rattle.spec.specs.Layout.{Put, used, taken, free, words, top, choose, put}
 use Rattle.laws.specs.Nodes.{ByteLabels}
 use Rattle.laws.specs.MarkLaws.{marked}
 use Rattle.slots.specs.Marks.{open_on}
@@ -32,18 +32,6 @@ module _ (L : List ℕ → List ℕ) where
     pub marks : MarksOk L xs U B end
     pub cursors : CursorsOk xs C
 
-  -- a search for the slot of node p that begins at word `start`: all that lies before is refused
-  pub record Sought (xs : List Put) (p : List ℕ) (U B : List ℕ) (start end : ℕ) : Type 0 where
-    pub small : ByteLabels L
-    pub marks : MarksOk L xs U B end
-    pub low : 4 ≤ start
-    pub before : (s : ℕ) → 256 ≤ s → s < start * 64 → free L xs (L p) (bit_xor s (first (L p))) ≡ false
-
-  -- node p is placed; the marks stand for that
-  pub record Marked (xs : List Put) (p : List ℕ) (end : ℕ) (U B : List ℕ) (r : Option ℕ) : Type 0 where
-    pub answer : r ≡ Some (choose L xs (L p))
-    pub marks : MarksOk L (put L xs p) U B end
-
   -- node p is placed; the marks and cursors stand for that
   pub record PlacedAt (xs : List Put) (p : List ℕ) (end : ℕ) (U B C : List ℕ) (r : Option ℕ) : Type 0 where
     pub answer : r ≡ Some (choose L xs (L p))
@@ -54,9 +42,6 @@ module _ (L : List ℕ → List ℕ) where
   pub record PlacedPast (xs : List Put) (p : List ℕ) (end : ℕ) (r : Option ℕ) : Type 0 where
     pub answer : r ≡ None
     pub past : end * 64 < words (put L xs p)
-
-  abbrev pub MarkedOr : List Put → List ℕ → ℕ → List ℕ → List ℕ → Option ℕ → Type 0
-  MarkedOr xs p end U B r = Marked xs p end U B r ⊎ PlacedPast xs p end r
 
   abbrev pub PlacedOr : List Put → List ℕ → ℕ → List ℕ → List ℕ → List ℕ → Option ℕ → Type 0
   PlacedOr xs p end U B C r = PlacedAt xs p end U B C r ⊎ PlacedPast xs p end r

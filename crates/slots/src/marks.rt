@@ -21,10 +21,41 @@ pub struct Marks<'a> {
 }
 
 impl Marks<'_> {
-    ghost use Rattle.std.specs.Prelude.{List, ℕ, IfSome};
+    ghost use Rattle.std.specs.Prelude.{List, ℕ, ◌<◌, IfSome};
     ghost use Rattle.spec.specs.Layout.{Put};
+    ghost use Rattle.slots.specs.Marks.{BadWord, FirstFree};
     ghost use Rattle.slots.specs.Going.{Going, PlacedOr};
     ghost use Rattle.slots.specs.Lent.{SameMarks};
+
+    // Bit j says that slot 64 i + j is refused for a node of these labels: a child's slot is taken, or its base is used.
+    fn bad_word(&self, i: usize, labels: &[u8]) -> u64
+        requires { (i < self.now.end) × (1 ≤ length labels.now) }
+        ensures { BadWord self.now.used.now self.now.bases.now labels.now i result }
+    {
+        let first = usize::from(labels[0]);
+        let mut bad = self.used[i];
+        for &label in &labels[1..] {
+            if bad == u64::MAX {
+                return bad;
+            }
+            bad |= search::moved(&*self.used, i, first ^ usize::from(label));
+        }
+        bad | search::moved(&*self.bases, i, first)
+    }
+
+    // The smallest slot from word from on that is not refused.
+    fn find_slot(&self, from: usize, labels: &[u8]) -> Option<usize>
+        requires { (from ≤ self.now.end) × (1 ≤ length labels.now) }
+        ensures { FirstFree self.now.used.now self.now.bases.now labels.now from self.now.end result }
+    {
+        for i in from..self.end {
+            let free = !self.bad_word(i, labels);
+            if free != 0 {
+                return Some(i * 64 + free.trailing_zeros() as usize);
+            }
+        }
+        None
+    }
 
     /// Places a node with these labels at the smallest slot of all, where that lies within the words: its base, or no slot. Words below
     /// `from` are full. A node without labels needs no base.
@@ -41,8 +72,11 @@ impl Marks<'_> {
         }
         let cursors = &mut *self.cursors;
         let start = search::start_of(cursors, labels, from, self.end);
-        let base = search::place_one(&mut *self.used, &mut *self.bases, start, self.end, labels)?;
-        search::remember(cursors, labels, base);
+        let slot = self.find_slot(start, labels)?;
+        let base = slot ^ usize::from(labels[0]);
+        search::mark_slot(&mut *self.bases, base);
+        search::mark_all(&mut *self.used, base, labels);
+        search::remember(&mut *self.cursors, labels, base);
         Some(base)
     }
 }

@@ -1,13 +1,12 @@
-// Marks of slots and bases, 64 to a word, and the search for a node's slot by words of 64 candidates.
-ghost use Rattle.std.specs.Prelude.{◌≡◌, not, ◌||◌, List, ℕ, ◌+◌, ◌-◌, ◌*◌, ◌/◌, ◌^◌, ◌<◌, ◌≤◌, eqb, length, IfSome};
+// Marks of slots and bases, 64 to a word: how a word of them moves, how one is set, and the word at which a search begins.
+ghost use Rattle.std.specs.Prelude.{◌≡◌, not, ◌||◌, List, ℕ, ◌+◌, ◌*◌, ◌/◌, ◌^◌, ◌<◌, ◌≤◌, eqb, length};
 ghost use Rattle.std.specs.Int.Bits.{bit_xor};
 ghost use Rattle.spec.specs.Layout.{Put, choose, put};
 ghost use Rattle.laws.specs.Nodes.{ByteLabels};
 ghost use Rattle.laws.specs.Perm.{bit, maybe};
 ghost use Rattle.laws.specs.MarkLaws.{marked, mark};
-ghost use Rattle.slots.specs.Marks.{MovedWord, BadWord, FirstFree, mark_all, Bounds};
-ghost use Rattle.slots.specs.Marks.{start_on, open_on};
-ghost use Rattle.slots.specs.Going.{CursorsOk, Going, Sought, MarkedOr, PlacedOr};
+ghost use Rattle.slots.specs.Marks.{MovedWord, mark_all, start_on, open_on};
+ghost use Rattle.slots.specs.Going.{CursorsOk};
 
 // ---- the permutation
 
@@ -38,47 +37,17 @@ pub fn xor_perm(word: u64, d: usize) -> u64
 // ---- candidates
 
 // The marks of word i with each slot moved by d: bit j is the mark of slot (64 i + j) XOR d.
-fn moved(marks: &[u64], i: usize, d: usize) -> u64
+pub(crate) fn moved(marks: &[u64], i: usize, d: usize) -> u64
     requires { bit_xor i (d / 64) < length marks.now }
     ensures { MovedWord marks.now i d result }
 {
     xor_perm(marks[i ^ (d / 64)], d % 64)
 }
 
-// Bit j says that slot 64 i + j is refused for a node of these labels: a child's slot is taken, or its base is used.
-fn bad_word(used: &[u64], bases: &[u64], i: usize, labels: &[u8]) -> u64
-    requires { (i / 4 * 4 + 4 ≤ length used.now) × (i / 4 * 4 + 4 ≤ length bases.now) × (1 ≤ length labels.now) }
-    ensures { BadWord used.now bases.now labels.now i result }
-{
-    let first = usize::from(labels[0]);
-    let mut bad = used[i];
-    for &label in &labels[1..] {
-        if bad == u64::MAX {
-            return bad;
-        }
-        bad |= moved(used, i, first ^ usize::from(label));
-    }
-    bad | moved(bases, i, first)
-}
-
-// The smallest slot from word from up to word end that is not refused.
-fn find_slot(used: &[u64], bases: &[u64], from: usize, end: usize, labels: &[u8]) -> Option<usize>
-    requires { Bounds used.now bases.now from end × (1 ≤ length labels.now) }
-    ensures { FirstFree used.now bases.now labels.now from end result }
-{
-    for i in from..end {
-        let free = !bad_word(used, bases, i, labels);
-        if free != 0 {
-            return Some(i * 64 + free.trailing_zeros() as usize);
-        }
-    }
-    None
-}
-
 // ---- marks
 
 // Slot s is marked, and no other.
-fn mark_slot(marks: &mut [u64], s: usize)
+pub(crate) fn mark_slot(marks: &mut [u64], s: usize)
     requires { s / 64 < length marks.old }
     ensures means { (t : ℕ) → marked marks.new t ≡ (marked marks.old t || eqb t s) }
     ensures same { marks.new ≡ mark marks.old s }
@@ -87,34 +56,13 @@ fn mark_slot(marks: &mut [u64], s: usize)
 }
 
 // Marks the slots of a node's children.
-fn mark_all(marks: &mut [u64], base: usize, labels: &[u8])
+pub(crate) fn mark_all(marks: &mut [u64], base: usize, labels: &[u8])
     requires { base / 256 * 4 + 4 ≤ length marks.old }
     ensures { marks.new ≡ mark_all base marks.old labels.now }
 {
     for &label in labels {
         mark_slot(marks, base ^ usize::from(label));
     }
-}
-
-// Places a node with these labels at the smallest slot from word start on: the smallest of all, where what lies before is refused.
-pub(crate) fn place_one(
-    used: &mut [u64],
-    bases: &mut [u64],
-    start: usize,
-    end: usize,
-    labels: &[u8],
-) -> Option<usize>
-    requires { Bounds used.old bases.old start end × (1 ≤ length labels.now) }
-    ensures stands { (L : List ℕ → List ℕ) (xs : List Put) (p : List ℕ) → labels.now ≡ L p
-        → Sought L xs p used.old bases.old start end
-        → MarkedOr L xs p end used.new bases.new result }
-    ensures small { IfSome result (λ b. b < end * 64) }
-{
-    let slot = find_slot(used, bases, start, end, labels)?;
-    let base = slot ^ usize::from(labels[0]);
-    mark_slot(bases, base);
-    mark_all(used, base, labels);
-    Some(base)
 }
 
 // ---- where a search begins

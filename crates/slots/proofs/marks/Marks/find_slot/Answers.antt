@@ -3,14 +3,15 @@ use Rattle.std.proofs.Common.{◌-◌, ◌^◌, refl, sym, arith}
 use Rattle.slots.specs.Marks.{slot_on}
 use Rattle.slots.proofs.Bitwise.{tz_lt}
 use Rattle.slots.proofs.Find.{hit, all-bad, both, none}
-use Rattle.slots.proofs.search.find_slot.Goals as goal
+use Rattle.slots.proofs.marks.Marks.find_slot.Goals as goal
 
 pub returns-then-free-ne0 : goal.returns-then-free-ne0
 unfolding slot_on
 returns-then-free-ne0 c =
+    let K = c.args.self.now in
     let lt = tz_lt 64 (2 ^ 64 - 1 - c.bad_word-free.result) (omega arith) c.if-free-ne0.true in
-    let is = hit c.args.used.now c.args.bases.now c.args.labels.now c.loop-i.i c.bad_word-free.result c.bad_word-free.ensures
-    c.bad_word-free.type_inv c.args.from (c.args.end - c.args.from) (lib.Count.count_trailing_zeros 64 (2 ^ 64 - 1 - c.bad_word-free.result))
+    let is = hit K.used.now K.bases.now c.args.labels.now c.loop-i.i c.bad_word-free.result c.bad_word-free.ensures
+    c.bad_word-free.type_inv c.args.from (K.end - c.args.from) (lib.Count.count_trailing_zeros 64 (2 ^ 64 - 1 - c.bad_word-free.result))
     c.if-free-ne0.true refl (omega arith) (omega arith) c.loop-i.invariant in
     (is, omega (arith, sym is, lt))
 
@@ -20,4 +21,4 @@ loop-i-preserved c =
 
 pub returns : goal.returns
 unfolding slot_on
-returns c = sym (none _ c.args.from c.args.end (omega arith) (λ s a b. c.loop-i.invariant s a (omega arith)))
+returns c = sym (none _ c.args.from c.args.self.now.end (omega arith) (λ s a b. c.loop-i.invariant s a (omega arith)))
