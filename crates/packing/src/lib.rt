@@ -19,6 +19,7 @@ ghost use Rattle.packing.specs.PlaceWalk.{Turn, Walked, Ended};
 
 pub mod layout;
 
+use layout::Based;
 use nodes::{Node, Work};
 use slots::Front;
 use slots::marks::Marks;
@@ -128,7 +129,8 @@ pub fn pack(work: &mut Work, made: u32, roots: &mut [u64], table: &mut [u64]) ->
     let nodes = &mut *work.nodes;
     let front = place_all(nodes, made, &mut *work.used, &mut *work.used_bases, end)?;
     table.fill(0);
-    layout::put_words(table, nodes, made);
-    layout::put_roots(roots, nodes, made);
+    let based = Based { nodes, made };
+    based.put_words(table);
+    based.put_roots(roots);
     Some(words::words_to(front.high))
 }

@@ -4,8 +4,8 @@ use Rattle.spec.specs.Lists.{fold}
 use Rattle.laws.specs.Fill.{write}
 use Rattle.nodes.specs.Run.{see}
 use Rattle.words.specs.NodeWords.{node_writes}
-use Rattle.packing.proofs.layout.put_words.Given as goal
+use Rattle.packing.proofs.layout.Based.put_words.Given as goal
 
 abbrev pub invariant-loop-i : goal.invariant-loop-i
-invariant-loop-i l = fold write l.table (node_writes (see l.nodes) l.made (l.made - l.i) l.i)
-    ≡ fold write l.initial.table (node_writes (see l.nodes) l.made (l.made - 1) 1)
+invariant-loop-i l = fold write l.table (node_writes (see l.self.nodes.now) l.self.made (l.self.made - l.i) l.i)
+    ≡ fold write l.initial.table (node_writes (see l.self.nodes.now) l.self.made (l.self.made - 1) 1)

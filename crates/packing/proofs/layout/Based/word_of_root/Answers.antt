@@ -3,7 +3,7 @@ use Rattle.std.proofs.Common.{arith}
 use Rattle.nodes.specs.Run.{see}
 use Rattle.nodes.proofs.NodeRun.{see-is}
 use Rattle.words.proofs.WordTurns.{root_none, root-out, root-at}
-use Rattle.packing.proofs.layout.word_of_root.Goals as goal
+use Rattle.packing.proofs.layout.Based.word_of_root.Goals as goal
 
 pub returns-then-root-eq0 : goal.returns-then-root-eq0
 returns-then-root-eq0 c = root_none _ _ _ c.if-root-eq0.true
@@ -13,5 +13,5 @@ returns-then-from-root c = root-out _ _ _ c.if-root-eq0.false (omega arith)
 
 pub returns : goal.returns
 returns c =
-    root-at (see c.args.nodes.now) c.args.made c.args.root c.root_word_of.result _ c.if-root-eq0.false (omega arith)
-    (see-is c.args.nodes.now c.args.root) c.root_word_of.ensures
+    root-at (see c.args.self.nodes.now) c.args.self.made c.args.root c.root_word_of.result _ c.if-root-eq0.false (omega arith)
+    (see-is c.args.self.nodes.now c.args.root) c.root_word_of.ensures

@@ -2,7 +2,7 @@
 use Rattle.nodes.specs.Run.{see}
 use Rattle.words.specs.NodeWords.{root_word}
 use Rattle.words.proofs.Roots.{Sofar}
-use Rattle.packing.proofs.layout.put_roots.Given as goal
+use Rattle.packing.proofs.layout.Based.put_roots.Given as goal
 
 abbrev pub invariant-loop-i : goal.invariant-loop-i
-invariant-loop-i l = Sofar (root_word (see l.nodes) l.made) l.initial.roots l.roots l.i
+invariant-loop-i l = Sofar (root_word (see l.self.nodes.now) l.self.made) l.initial.roots l.roots l.i
