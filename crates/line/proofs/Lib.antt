@@ -3,4 +3,3 @@ pub mod Spaces
 pub mod LineTurns
 pub mod LinesLeft
 pub mod Parts
-mod Given

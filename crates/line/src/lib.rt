@@ -80,6 +80,7 @@ pub struct Fields<'a> {
 }
 
 /// The fields of `line`, or refusal 3, 4 or 5.
+#[tactic(auto, using(crate::proofs::Parts::in_line), unfolding(spec::specs::Line::fields, spec::specs::Check::given, spec::specs::Check::need))]
 pub fn split_fields(line: &[u8]) -> Result<Fields<'_>, Refusal>
     ensures means { checked fields_of result ≡ fields line.now }
     ensures filled { IfOk result NoneEmpty }
@@ -100,6 +101,7 @@ pub fn split_fields(line: &[u8]) -> Result<Fields<'_>, Refusal>
 }
 
 /// The id that the bytes before a line's first space state, or refusal 6.
+#[tactic(auto, using(laws::specs::LiteralLaws::digits_le), unfolding(spec::specs::Check::given))]
 pub fn read_id(part: &[u8]) -> Result<u32, Refusal>
     ensures { checked (λ v. v) result ≡ given 6 (digits 4294967295 part.now) pass }
 {
@@ -108,6 +110,7 @@ pub fn read_id(part: &[u8]) -> Result<u32, Refusal>
 }
 
 /// The length that the bytes after a line's last space declare, or refusal 11.
+#[tactic(auto, unfolding(spec::specs::Check::given))]
 pub fn read_length(part: &[u8]) -> Result<u64, Refusal>
     ensures { checked (λ v. v) result ≡ given 11 (digits 18446744073709551615 part.now) pass }
 {
