@@ -26,7 +26,7 @@ use Rattle.nodes.proofs.Gathering.{gathered_take}
 use Rattle.nodes.proofs.Chains.{number_lt}
 use Rattle.nodes.specs.Queue.{Queued, Ordered}
 use Rattle.nodes.proofs.Queueing.{queue-on, queue-step, queue-end, queue-short}
-use Rattle.slots.proofs.Find.{bit-of_zero}
+use Rattle.slots.proofs.Bitwise.{bit-of_zero}
 use Rattle.slots.specs.Going.{Going, PlacedAt, PlacedOr, onward}
 use Rattle.packing.specs.PlaceWalk.{Amid, Through}
 use Rattle.slots.proofs.Onward.{going_on}

@@ -22,7 +22,7 @@ use Rattle.laws.specs.Placed.{grows, taken_refused, choose-least}
 use Rattle.laws.specs.MarkLaws.{marked, mark}
 use Rattle.slots.specs.Marks.{slot_on, mark_all, Bounds, open_on, start_on}
 use Rattle.slots.proofs.Place.{first-get, from_top, chosen, slot-past, marks_then}
-use Rattle.slots.proofs.Find.{bit-of_ones}
+use Rattle.slots.proofs.Bitwise.{bit-of_ones}
 use Rattle.slots.proofs.Starts.{start-cases, start-in}
 use Rattle.slots.specs.Going.{MarksOk, CursorsOk, FrontOk, Going, PlacedPast}
 use Rattle.std.specs.Prelude.{None}

@@ -9,7 +9,7 @@ use lib.Dec.{eqb, ltb}
 use lib.ListN.{length, get_or, take, drop, length-set, length-drop, drop_of_length-le}
 use lib.Seq.{take-suc, take_all, drop-cons, get_or-drop}
 use lib.Bits.{bit_xor, bit_or, xor_shr, xor_mod, xor_comm}
-use lib.Count.{count_trailing_zeros, trailing_of_zero}
+use lib.Count.{count_trailing_zeros}
 use borrow.Author.Tests.{eq-eqb, ne_eqb, ltb-true, ltb-false}
 use Rattle.spec.specs.Lists.{any}
 use Rattle.spec.specs.Layout.{first_from}
@@ -19,7 +19,7 @@ use Rattle.laws.specs.First.{first-is, skip}
 use Rattle.laws.specs.Perm.{bit, bit-lt, bit-or}
 use Rattle.laws.specs.MarkLaws.{marked, mark}
 use Rattle.slots.specs.Marks.{MovedWord, clash_at, bad_at, BadWord, mark_all}
-use Rattle.slots.proofs.Bitwise.{not-bit, tz_below, tz_at, tz_lt}
+use Rattle.slots.proofs.Bitwise.{bit-of_zero, bit-of_ones, not-bit, lowest-bit}
 
 -- ---- a word of candidates
 
@@ -63,13 +63,6 @@ or-test a b i = ap (λ (z : ℕ). eqb z 1) (bit-or a b i) ∙ go (bit a i) (bit 
     go zero (suc (suc y)) p q = absurd (omega arith)
     go (suc zero) (suc (suc y)) p q = absurd (omega arith)
     go (suc (suc x)) y p q = absurd (omega arith)
-
-pub bit-of_zero : (j : ℕ) → bit 0 j ≡ 0
-bit-of_zero j = tz_below (suc j) 0 j (subst (λ (z : ℕ). j < z) (sym (trailing_of_zero (suc j))) (omega arith))
-
--- every bit of a full word is set
-pub bit-of_ones : (j : ℕ) → j < 64 → eqb (bit 0xffffffffffffffff j) 1 ≡ true
-bit-of_ones j h = let n = not-bit 64 j 0 (omega arith) h in let o = bit-of_zero j in eq-eqb (bit 0xffffffffffffffff j) 1 (omega arith)
 
 module _ (used : List ℕ) (l1 : ℕ) (ls : List ℕ) (i : ℕ) where
   -- the first label falls on the slot itself
@@ -144,10 +137,10 @@ rest_end ls k h = omega (arith, ap length (rest-whole ls), length-drop 1 ls)
 
 module _ (used bases ls : List ℕ) (i bad : ℕ) (is : BadWord used bases ls i bad) (fits : bad < 2 ^ 64) where
   set-bad : (j : ℕ) → j < 64 → bit (2 ^ 64 - 1 - bad) j ≡ 0 → bad_at used bases ls (i * 64 + j) ≡ true
-  set-bad j h e = let n = not-bit 64 j bad fits h in sym (is j h) ∙ eq-eqb (bit bad j) 1 (omega arith)
+  set-bad j h e = let n = not-bit bad j fits h in sym (is j h) ∙ eq-eqb (bit bad j) 1 (omega (arith, bit-lt bad j))
 
   clear-good : (j : ℕ) → j < 64 → bit (2 ^ 64 - 1 - bad) j ≡ 1 → bad_at used bases ls (i * 64 + j) ≡ false
-  clear-good j h e = let n = not-bit 64 j bad fits h in sym (is j h) ∙ ne_eqb (bit bad j) 1 (λ z. omega arith)
+  clear-good j h e = let n = not-bit bad j fits h in sym (is j h) ∙ ne_eqb (bit bad j) 1 (λ z. omega arith)
 
   within : (s : ℕ) → i * 64 ≤ s → s < i * 64 + 64 → ((j : ℕ) → j < 64 → bad_at used bases ls (i * 64 + j) ≡ true)
       → bad_at used bases ls s ≡ true
@@ -164,14 +157,15 @@ module _ (used bases ls : List ℕ) (i bad : ℕ) (is : BadWord used bases ls i 
       → i * 64 + t ≡ first_from (λ s. not (bad_at used bases ls s)) (n * 64) (from * 64)
   hit from n t z e a b before =
       sym (first-is (λ s. not (bad_at used bases ls s)) (n * 64) (from * 64) (i * 64 + t) (omega arith) (omega (arith, lt))
-      (ap not (clear-good t lt (ap (bit (2 ^ 64 - 1 - bad)) e ∙ tz_at 64 (2 ^ 64 - 1 - bad) lt')))
+      (ap not (clear-good t lt (ap (bit (2 ^ 64 - 1 - bad)) e ∙ low.1)))
       (λ s p q. ap not (go s p q (either (ltb s (i * 64))))))
     where
-      lt' : count_trailing_zeros 64 (2 ^ 64 - 1 - bad) < 64
-      lt' = tz_lt 64 (2 ^ 64 - 1 - bad) (omega arith) z
+      low : (count_trailing_zeros 64 (2 ^ 64 - 1 - bad) < 64) × (bit (2 ^ 64 - 1 - bad) (count_trailing_zeros 64 (2 ^ 64 - 1 - bad)) ≡ 1)
+          × ((j : ℕ) → j < count_trailing_zeros 64 (2 ^ 64 - 1 - bad) → bit (2 ^ 64 - 1 - bad) j ≡ 0)
+      low = lowest-bit (2 ^ 64 - 1 - bad) z (omega arith)
 
       lt : t < 64
-      lt = subst (λ (x : ℕ). x < 64) (sym e) lt'
+      lt = subst (λ (x : ℕ). x < 64) (sym e) low.0
 
       go : (s : ℕ) → from * 64 ≤ s → s < i * 64 + t → (ltb s (i * 64) ≡ true) ⊎ (ltb s (i * 64) ≡ false) → bad_at used bases ls s ≡ true
       go s p q (inl y) = before s p (ltb-true s (i * 64) y)
@@ -180,7 +174,7 @@ module _ (used bases ls : List ℕ) (i bad : ℕ) (is : BadWord used bases ls i 
           let w : i * 64 + (s - i * 64) ≡ s = omega arith in
           subst (λ (x : ℕ). bad_at used bases ls x ≡ true) w
           (set-bad (s - i * 64) (omega (arith, lt))
-          (tz_below 64 (2 ^ 64 - 1 - bad) (s - i * 64) (subst (λ (x : ℕ). s - i * 64 < x) e (omega arith))))
+          (low.2 (s - i * 64) (subst (λ (x : ℕ). s - i * 64 < x) e (omega arith))))
 
 -- what holds below i * 64 and in the next word holds below (i + 1) * 64
 pub both : (f : ℕ → Bool) (from i : ℕ) (c : Bool) → ((s : ℕ) → from * 64 ≤ s → s < i * 64 → f s ≡ c)

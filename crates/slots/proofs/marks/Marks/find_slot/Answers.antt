@@ -1,7 +1,7 @@
 -- The lowest bit that is not set stands for the smallest slot that is not refused.
 use Rattle.std.proofs.Common.{◌-◌, ◌^◌, refl, sym, arith}
 use Rattle.slots.specs.Marks.{slot_on}
-use Rattle.slots.proofs.Bitwise.{tz_lt}
+use Rattle.slots.proofs.Bitwise.{lowest-bit}
 use Rattle.slots.proofs.Find.{hit, all-bad, both, none}
 use Rattle.slots.proofs.marks.Marks.find_slot.Goals as goal
 
@@ -9,7 +9,7 @@ pub returns-then-free-ne0 : goal.returns-then-free-ne0
 unfolding slot_on
 returns-then-free-ne0 c =
     let K = c.args.self.now in
-    let lt = tz_lt 64 (2 ^ 64 - 1 - c.bad_word-free.result) (omega arith) c.if-free-ne0.true in
+    let lt = (lowest-bit (2 ^ 64 - 1 - c.bad_word-free.result) c.if-free-ne0.true (omega arith)).0 in
     let is = hit K.used.now K.bases.now c.args.labels.now c.loop-i.i c.bad_word-free.result c.bad_word-free.ensures
     c.bad_word-free.type_inv c.args.from (K.end - c.args.from) (lib.Count.count_trailing_zeros 64 (2 ^ 64 - 1 - c.bad_word-free.result))
     c.if-free-ne0.true refl (omega arith) (omega arith) c.loop-i.invariant in
