@@ -5,21 +5,20 @@ use Rattle.std.specs.Prelude.{None, Some}
 use mathlib.Core.List.{List, [], ◌∷◌}
 use Prim.Native.Nat.{ℕ, zero, suc, ◌+◌, ◌≤◌, ◌<◌}
 use native.Mathlib.Omega.{arith}
-use native.Mathlib.Nat.{not-suc-le-zero, add-zero, zero-add}
+use native.Mathlib.Nat.{not-suc-le-zero, add-zero}
 use lib.ListN.{length, get_or}
 use borrow.Author.Tests.{le-leb, lt-leb}
 use Rattle.spec.specs.Lists.{each, over}
 use Rattle.spec.specs.Utf8.{lossy}
 use Rattle.spec.specs.Answer.{Answer, whole}
-use lib.IntN.{ℤ}
-use Rattle.spec.specs.Memory.{Memory, memory, too_short}
+use Rattle.spec.specs.Memory.{Memory, too_short}
 use Rattle.spec.specs.Encode.{refused}
 use Rattle.spec.specs.Decode.{lookup, first_absent, lossy_output, decode_lossy_on}
-use Rattle.decoding.specs.declared.Decoded.TheVariants.{Whole, ShortMemory, Absent, Full}
-use Rattle.decoding.specs.Answers.{Answered}
-use Rattle.decoding.specs.Measured.{tokens}
-use Rattle.lossy.specs.Lossy.{FirstAbsent, AllPresent}
-use Rattle.decoding.proofs.DecodePasses.{lookup-same}
+use Rattle.std.specs.Prelude.{Ok, Err}
+use Rattle.decoding.specs.declared.DecodeError.{DecodeError}
+use Rattle.decoding.specs.declared.DecodeError.TheVariants.{ShortMemory, Full}
+use Rattle.decoding.specs.Answers.{answer_of, Answered}
+use Rattle.lossy.specs.Lossy.{AllPresent}
 
 lossy-short : (m : Memory) (n : ℕ) (ids : List ℕ) → too_short m ≡ true → decode_lossy_on m n ids ≡ refused 1
 unfolding decode_lossy_on
@@ -45,7 +44,7 @@ module _ (m : Memory) where
   first-later k i ids (b ∷ bs) e h = rw (e, first_absent)
 
   -- the ids before j have bytes, and the one at j has none
-  first_some : (ids : List ℕ) (k j : ℕ) → ((i : ℕ) → i < j → 1 ≤ length (lookup m (get_or ids i 0))) → j < length ids
+  pub first_some : (ids : List ℕ) (k j : ℕ) → ((i : ℕ) → i < j → 1 ≤ length (lookup m (get_or ids i 0))) → j < length ids
       → lookup m (get_or ids j 0) ≡ [] → first_absent m k ids ≡ Some (absent_at (k + j) (get_or ids j 0))
   first_some [] k j p h e = absurd (not-suc-le-zero h)
   first_some (i ∷ ids) k zero p h e = first-here k i ids e ∙ rw add-zero
@@ -62,9 +61,6 @@ module _ (m : Memory) where
   first-none (i ∷ ids) k p =
       first-later k i ids (lookup m i) refl (p 0 (omega arith)) ∙ first-none ids (suc k) (λ a b. p (suc a) (omega arith))
 
-  pub present-all : (ids : List ℕ) (k : ℕ) → FirstAbsent m ids k → length ids ≤ k → AllPresent m ids
-  present-all ids k f h j l = f.present j (omega arith)
-
 lossy-over : (m : Memory) (n : ℕ) (ids : List ℕ) → n < length (lossy (each (lookup m) ids))
     → lossy_output m n ids None ≡ record { answer = record { number = 28; count = 0; place = length ids; value = 0 }; cells = [] }
 unfolding lossy_output
@@ -78,46 +74,27 @@ lossy-fits : (m : Memory) (n : ℕ) (ids : List ℕ) → length (lossy (each (lo
 unfolding lossy_output
 lossy-fits m n ids h = rw (lossy_output, le-leb _ _ h)
 
-module _ (single : List ℤ) (offsets blob roots table ids before : List ℕ) (n : ℕ) where
-  abbrev whole-memory : Memory
-  whole-memory = memory single offsets blob roots table
+module _ (m : Memory) (ids before : List ℕ) (n : ℕ) where
+  pub lossy-answered-short : true ≡ too_short m → Answered (decode_lossy_on m n ids) (Err ShortMemory) before before
+  lossy-answered-short h = rw (lossy-short m n ids (sym h)) (record { answer = refl; cells = refl })
 
-  same_text : lossy (each (lookup (tokens offsets blob)) ids) ≡ lossy (each (lookup whole-memory) ids)
-  same_text = ap (λ (f : ℕ → List ℕ). lossy (each f ids)) (sym (lookup-same single offsets blob roots table))
-
-  same-absent : (k : ℕ) → FirstAbsent (tokens offsets blob) ids k → FirstAbsent whole-memory ids k
-  unfolding lookup
-  same-absent k f = record { within = f.within; present = f.present; absent = f.absent }
-
-  pub lossy-answered-short : too_short whole-memory ≡ true → Answered (decode_lossy_on whole-memory n ids) ShortMemory before before
-  lossy-answered-short h = rw (lossy-short whole-memory n ids h) (record { answer = refl; cells = refl })
-
-  module _ (h : too_short whole-memory ≡ false) (k : ℕ) (f : FirstAbsent (tokens offsets blob) ids k) where
-    on-memory : decode_lossy_on whole-memory n ids ≡ lossy_output whole-memory n ids (first_absent whole-memory 0 ids)
-    on-memory = lossy-enough whole-memory n ids h
-
+  module _ (h : false ≡ too_short m) where
     -- 27: an id is absent
-    pub lossy-answered-absent : k < length ids → Answered (decode_lossy_on whole-memory n ids) (Absent 0 k (get_or ids k 0)) before before
+    pub lossy-answered-absent : (e : DecodeError) → first_absent m 0 ids ≡ Some (answer_of (Err e))
+        → Answered (decode_lossy_on m n ids) (Err e) before before
     unfolding lossy_output
-    lossy-answered-absent l =
-        let g = same-absent k f in
-        rw (on-memory, first_some whole-memory ids 0 k g.present l (g.absent l), zero-add)
-        (record { answer = refl; cells = refl })
+    lossy-answered-absent e a = rw (lossy-enough m n ids (sym h), a) (record { answer = refl; cells = refl })
 
-    module _ (l : length ids ≤ k) where
-      all_there : first_absent whole-memory 0 ids ≡ None
-      all_there = first-none whole-memory ids 0 (present-all whole-memory ids k (same-absent k f) l)
-
+    module _ (all : AllPresent m ids) where
       -- 28: the text does not fit
-      pub lossy-answered-full : n < length (lossy (each (lookup (tokens offsets blob)) ids))
-          → Answered (decode_lossy_on whole-memory n ids) (Full 0 (length ids)) before before
+      pub lossy-answered-full : n < length (lossy (each (lookup m) ids))
+          → Answered (decode_lossy_on m n ids) (Err (Full 0 (length ids))) before before
       lossy-answered-full o =
-          rw (on-memory, all_there, lossy-over whole-memory n ids (rw (← same_text) o)) (record { answer = refl; cells = refl })
+          rw (lossy-enough m n ids (sym h), first-none m ids 0 all, lossy-over m n ids o) (record { answer = refl; cells = refl })
 
       -- it fits
-      pub lossy-answered-whole : (len : ℕ) (after : List ℕ) → len ≡ length (lossy (each (lookup (tokens offsets blob)) ids)) → len ≤ n
-          → after ≡ over (lossy (each (lookup (tokens offsets blob)) ids)) before
-          → Answered (decode_lossy_on whole-memory n ids) (Whole len) before after
+      pub lossy-answered-whole : (len : ℕ) (after : List ℕ) → len ≡ length (lossy (each (lookup m) ids)) → len ≤ n
+          → after ≡ over (lossy (each (lookup m) ids)) before → Answered (decode_lossy_on m n ids) (Ok len) before after
       lossy-answered-whole len after e fits w =
-          rw (on-memory, all_there, lossy-fits whole-memory n ids (omega (arith, ap length same_text)))
-          (record { answer = ap whole e ∙ rw same_text; cells = w ∙ rw same_text })
+          rw (lossy-enough m n ids (sym h), first-none m ids 0 all, lossy-fits m n ids (omega arith))
+          (record { answer = ap whole e; cells = w })

@@ -1,13 +1,13 @@
 -- The steps of the passes of lossy decoding. Each says that what is left from here gives what was left from the start. Assumes nothing.
-use mathlib.Core.Path.{◌≡◌, refl, ap, sym, subst, ◌∙◌}
+use mathlib.Core.Path.{◌≡◌, refl, ap, sym, ◌∙◌}
 use mathlib.Core.List.{List, [], ◌∷◌, ◌++◌, append_assoc, append-nil}
 use Rattle.std.specs.Prelude.{None}
 use Prim.Native.Nat.{ℕ, ◌+◌, ◌≤◌, ◌<◌}
 use native.Mathlib.Omega.{arith}
 use native.Mathlib.Numerals.{add-one}
 use native.Mathlib.Nat.{add-zero, zero-add}
-use lib.ListN.{length, take, drop, get_or, length-append, length-drop, length-replicate, drop_of_length-le, take-append-drop}
-use lib.Seq.{paste, length-paste, drop-cons, get_or-take, get_or-drop, take-length, length-take-le}
+use lib.ListN.{length, take, drop, get_or, length-append, length-replicate, drop_of_length-le, take-append-drop}
+use lib.Seq.{paste, length-paste, drop-cons, take-length}
 use Rattle.spec.specs.Lists.{each, over}
 use Rattle.spec.specs.Utf8.{lossy, first_bad}
 use Rattle.laws.specs.Utf8Laws.{is_none, well_formed_first}
@@ -22,24 +22,18 @@ use Rattle.reader.specs.declared.Held.{Held}
 use Rattle.reader.specs.declared.Pushed.{Pushed}
 use Rattle.lossy.specs.declared.Progress.{Progress}
 use Rattle.lossy.specs.Lossy.{put, Reads, AsTheyAre}
-use Rattle.cells.proofs.Pasted.{take-inside, drop-behind}
+use borrow.Rule.Slice.PartMut.{put_mid}
+use Rattle.std.proofs.lemmas.Slice.{put_mid-paste}
+use Rattle.std.proofs.lemmas.List.Edits.{paste-paste}
+use Rattle.reader.specs.declared.Held.TheVariants.{Nothing}
 
--- ── a part of a slice, byte by byte ──────────────────────────────────
+-- ── a token, byte by byte ────────────────────────────────────────────
 
-pub part-size : (l : List ℕ) (start len : ℕ) → start + len ≤ length l → length (take len (drop start l)) ≡ len
-part-size l start len h = length-take-le len (drop start l) (simp length-drop (omega arith))
+pub next_byte : (t : List ℕ) (k : ℕ) → k < length t → drop k t ≡ get_or t k 0 ∷ drop (k + 1) t
+next_byte t k h = rw (drop-cons t k 0 h, add-one)
 
-pub part-next : (l : List ℕ) (start len k : ℕ) → start + len ≤ length l → k < len
-    → drop k (take len (drop start l)) ≡ get_or l (start + k) 0 ∷ drop (k + 1) (take len (drop start l))
-part-next l start len k h kl =
-    let size = part-size l start len h in
-    drop-cons (take len (drop start l)) k 0 (omega arith)
-    ∙ rw (get_or-take len (drop start l) k 0 kl, get_or-drop start l k 0, add-one)
-
-pub part-done : (l : List ℕ) (start len k : ℕ) → start + len ≤ length l → len ≤ k → drop k (take len (drop start l)) ≡ []
-part-done l start len k h lk =
-    let size = part-size l start len h in
-    drop_of_length-le (take len (drop start l)) {i = k} (omega arith)
+pub no_byte : (t : List ℕ) (k : ℕ) → length t ≤ k → drop k t ≡ []
+no_byte t k h = drop_of_length-le t h
 
 -- ── reading bytes ────────────────────────────────────────────────────
 
@@ -101,23 +95,21 @@ put-none d at x e = rw (e, add-zero, append-nil) (take-append-drop at d)
 -- two pieces one after the other
 pub put-more : (d : List ℕ) (at : ℕ) (x y : List ℕ) → at + length x ≤ length d → put d at (x ++ y) ≡ put (put d at x) (at + length x) y
 put-more d at x y h =
-    let front : take (at + length x) (put d at x) ≡ take at d ++ x =
-    ap (take (at + length x)) (put-paste d at x)
-    ∙ take-inside d at x (length x) h (omega arith) (length x) (omega arith)
-    ∙ ap (λ (r : List ℕ). take at d ++ r) (take-length x) in
-    let back : drop (at + length x + length y) (put d at x) ≡ drop (at + length x + length y) d =
-    ap (drop (at + length x + length y)) (put-paste d at x)
-    ∙ drop-behind d at x (length x) h (omega arith) (at + length x + length y) (omega arith) in
-    let size : at + length (x ++ y) ≡ at + length x + length y = simp length-append (omega arith) in
-    rw (front, back, size) (simp append_assoc)
+    put-paste d at (x ++ y) ∙ ap (paste d at (x ++ y)) (length-append x y)
+    ∙ sym (paste-paste d at x y (length x) (length y) refl refl (omega arith))
+    ∙ ap (λ (e : List ℕ). paste e (at + length x) y (length y)) (sym (put-paste d at x))
+    ∙ sym (put-paste (put d at x) (at + length x) y)
 
 pub length-put : (d : List ℕ) (at : ℕ) (x : List ℕ) → at + length x ≤ length d → length (put d at x) ≡ length d
 length-put d at x h = ap length (put-paste d at x) ∙ length-paste d at x (length x) h (omega arith)
 
--- a copy out of an array that has the bytes x, and zeros after them
-pub copied : (d : List ℕ) (at : ℕ) (x bytes : List ℕ) (len n : ℕ) → bytes ≡ padded x n → len ≡ length x
-    → paste d at (drop 0 bytes) len ≡ put d at x
-copied d at x bytes len n e l = rw (e, l, padded-take n x)
+-- a copy of x over the k elements from a place on
+pub part_put : (d : List ℕ) (at k : ℕ) (new x : List ℕ) → new ≡ x → length x ≡ k → put_mid at k d new ≡ put d at x
+part_put d at k new x e l = put_mid-paste at k d new x (length x) e l refl ∙ sym (put-paste d at x)
+
+-- the front of an array that has the bytes x, and zeros after them
+pub array-front : (x bytes : List ℕ) (len n : ℕ) → bytes ≡ padded x n → len ≡ length x → take len bytes ≡ x
+array-front x bytes len n e l = rw (e, l, padded-take n x)
 
 pub pushed-size : (held : Held) (b : ℕ) (r : Pushed) → r ≡ pushed_as (push_of (held_of held) b) → length r.bytes ≡ 6
 pushed-size held b r p =
@@ -148,13 +140,15 @@ module _ (h t : List ℕ) (n : ℕ) (before : List ℕ) (held : Held) (len : ℕ
       writing-room = omega (arith, w.fits, split h t n held len b rest s e w.along r p)
 
       -- one byte more
-      pub writing_more : (next : List ℕ) → next ≡ paste after len (drop 0 r.bytes) r.len → Writing h t n before r.held
-          (len + r.len) rest next
-      writing_more next c =
+      pub writing_more : (k : ℕ) (new : List ℕ) → k ≡ r.len → new ≡ take r.len r.bytes → Writing h t n before r.held (len + r.len) rest
+          (put_mid len k after new)
+      writing_more k new ek c =
           let x = (push_of (held_of held) b).out in
           let l : r.len ≡ length x = pushed-len h t n held len b rest s e w.along r p in
-          let put-it : next ≡ put after len x = c ∙ copied after len x r.bytes r.len 6 (ap (λ (y : Pushed). y.bytes) p) l in
-          let size : length next ≡ length after = ap length put-it ∙ length-put after len x (omega (arith, writing-room)) in
+          let front : new ≡ x = c ∙ array-front x r.bytes r.len 6 (ap (λ (y : Pushed). y.bytes) p) l in
+          let put-it : put_mid len k after new ≡ put after len x = part_put after len k new x front (sym (ek ∙ l)) in
+          let size : length (put_mid len k after new) ≡ length after =
+          ap length put-it ∙ length-put after len x (omega (arith, writing-room)) in
           let bytes : (run (held_of held) s).out ≡ x ++ (run (held_of r.held) rest).out =
           ap (λ (u : Turn). u.out) (step h t n held len b rest s e w.along r p) in
           record {
@@ -276,10 +270,12 @@ module _ (m : Memory) (ids : List ℕ) where
       pub last-room : n + r.len ≤ length after
       last-room = omega (arith, w.fits, ap length (text-last k held h), ap (λ (x : Pushed). x.len) p)
 
-      pub left-none : (next : List ℕ) → next ≡ paste after n (drop 0 r.bytes) r.len → next ≡ over (lossy (each (lookup m) ids)) before
-      left-none next c =
-          c ∙ copied after n (finish_of (held_of held)).out r.bytes r.len 6 (ap (λ (y : Pushed). y.bytes) p)
-          (ap (λ (y : Pushed). y.len) p)
+      pub left-none : (k : ℕ) (new : List ℕ) → k ≡ r.len → new ≡ take r.len r.bytes
+          → put_mid n k after new ≡ over (lossy (each (lookup m) ids)) before
+      left-none size new ek c =
+          let x = (finish_of (held_of held)).out in
+          let l : r.len ≡ length x = ap (λ (y : Pushed). y.len) p in
+          part_put after n size new x (c ∙ array-front x r.bytes r.len 6 (ap (λ (y : Pushed). y.bytes) p) l) (sym (ek ∙ l))
           ∙ ap (put after n) (sym (text-last k held h)) ∙ sym w.text ∙ rw zero-add
 
 finish-few : (h : List ℕ) → length (finish_of h).out ≤ 6
@@ -294,10 +290,8 @@ finish-size h r p = (
 
 -- ── a token whose bytes stand as they are ────────────────────────────
 
-pub as_they_are : (held : Held) (t : List ℕ) → held.len ≡ 0 → first_bad t ≡ None → AsTheyAre (held_of held) t
-as_they_are held t e w =
-    let empty : held_of held ≡ [] = ap (λ (k : ℕ). take k (held.first ∷ held.second ∷ held.third ∷ [])) e in
-    subst (λ (h : List ℕ). AsTheyAre h t) (sym empty) (well_formed_run t (well_formed_first t ∙ ap is_none w))
+pub as_they_are : (held : Held) (t : List ℕ) → held ≡ Nothing → first_bad t ≡ None → AsTheyAre (held_of held) t
+as_they_are held t e w = rw e (well_formed_run t (well_formed_first t ∙ ap is_none w))
 
 module _ (held : Held) (t : List ℕ) (n : ℕ) (e : AsTheyAre (held_of held) t) where
   pub stands-long : n + length (run (held_of held) t).out ≡ n + length t
@@ -306,5 +300,5 @@ module _ (held : Held) (t : List ℕ) (n : ℕ) (e : AsTheyAre (held_of held) t)
   pub stands-reads : (len : ℕ) → len ≡ length t → Reads (held_of held) t n (record { held = held; len = n + len })
   stands-reads len l = record { held = ap (λ (u : Turn). u.held) (sym e); len = ap (λ (k : ℕ). n + k) l ∙ sym stands-long }
 
-  pub stands-put : (d : List ℕ) (len : ℕ) → len ≡ length t → take n d ++ t ++ drop (n + len) d ≡ put d n (run (held_of held) t).out
-  stands-put d len l = ap (λ (k : ℕ). take n d ++ t ++ drop (n + k) d) l ∙ ap (λ (u : Turn). put d n u.out) (sym e)
+  pub stands-put : (d new : List ℕ) (k : ℕ) → new ≡ t → k ≡ length t → put_mid n k d new ≡ put d n (run (held_of held) t).out
+  stands-put d new k c l = part_put d n k new t c (sym l) ∙ ap (λ (u : Turn). put d n u.out) (sym e)

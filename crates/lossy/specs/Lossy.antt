@@ -1,24 +1,21 @@
 -- What the passes of lossy decoding give. Assumes nothing.
-use Rattle.std.specs.Prelude.{◌≡◌, List, [], ◌++◌, ℕ, ◌+◌, ◌≤◌, ◌<◌, length, take, drop, get_or}
+use Rattle.std.specs.Prelude.{◌≡◌, List, ◌++◌, ℕ, ◌+◌, ◌≤◌, ◌<◌, length, take, drop, get_or, Option, None, Some, Result, Ok, Err}
 use Rattle.spec.specs.Memory.{Memory}
-use Rattle.spec.specs.Decode.{lookup}
+use Rattle.spec.specs.Decode.{lookup, first_absent}
 use Rattle.reader.specs.Reader.{run}
 use Rattle.reader.specs.HeldBytes.{held_of}
+use Rattle.decoding.specs.declared.DecodeError.{DecodeError}
+use Rattle.decoding.specs.Answers.{answer_of}
 use Rattle.lossy.specs.declared.Progress.{Progress}
-use Rattle.lossy.specs.declared.Growth.{Growth}
-use Rattle.lossy.specs.declared.Growth.TheVariants.{To, Over}
-use Rattle.lossy.specs.declared.Size.{Size}
-use Rattle.lossy.specs.declared.Size.TheVariants.{Fits, Exceeds}
-
--- k is the index of the first id without bytes, or the number of ids
-pub record FirstAbsent (m : Memory) (ids : List ℕ) (k : ℕ) : Type 0 where
-  pub within : k ≤ length ids
-  pub present : (j : ℕ) → j < k → 1 ≤ length (lookup m (get_or ids j 0))
-  pub absent : k < length ids → lookup m (get_or ids k 0) ≡ []
 
 -- each id has bytes
 abbrev pub AllPresent : Memory → List ℕ → Type 0
 AllPresent m ids = (j : ℕ) → j < length ids → 1 ≤ length (lookup m (get_or ids j 0))
+
+-- each id has bytes, or the refusal names the first that has none
+abbrev pub Presence : Memory → List ℕ → Result (Unit {0}) DecodeError → Type 0
+Presence m ids (Ok u) = AllPresent m ids
+Presence m ids (Err e) = first_absent m 0 ids ≡ Some (answer_of (Err e))
 
 -- d with the elements of x from a place on
 abbrev pub put : List ℕ → ℕ → List ℕ → List ℕ
@@ -34,11 +31,11 @@ pub record Reads (h t : List ℕ) (n : ℕ) (p : Progress) : Type 0 where
   pub len : p.len ≡ n + length (run h t).out
 
 -- the same within room, or that the text is longer
-abbrev pub Grows : List ℕ → List ℕ → ℕ → ℕ → Growth → Type 0
-Grows h t n room (To p) = Reads h t n p × (p.len ≤ room)
-Grows h t n room Over = room < n + length (run h t).out
+abbrev pub Grows : List ℕ → List ℕ → ℕ → ℕ → Option Progress → Type 0
+Grows h t n room (Some p) = Reads h t n p × (p.len ≤ room)
+Grows h t n room None = room < n + length (run h t).out
 
 -- the length of a text within room, or that it is longer
-abbrev pub SizeIs : List ℕ → ℕ → Size → Type 0
-SizeIs text room (Fits len) = (len ≡ length text) × (len ≤ room)
-SizeIs text room Exceeds = room < length text
+abbrev pub SizeIs : List ℕ → ℕ → Option ℕ → Type 0
+SizeIs text room (Some len) = (len ≡ length text) × (len ≤ room)
+SizeIs text room None = room < length text

@@ -2,32 +2,37 @@
 // the last two read them token by token, with the bytes of a character that one token begins and another ends held between.
 #![tactic(auto)]
 
-ghost use Rattle.std.specs.Prelude.{◌≡◌, ◌+◌, ◌<◌, ◌≤◌, T, length, take, drop};
+ghost use Rattle.std.specs.Prelude.{◌≡◌, ◌+◌, ◌≤◌, T, length};
 ghost use Rattle.spec.specs.Lists.{each, over};
 ghost use Rattle.spec.specs.Utf8.{lossy};
-ghost use Rattle.spec.specs.Memory.{memory};
 ghost use Rattle.spec.specs.Decode.{lookup, decode_lossy_on};
+ghost use Rattle.memory.specs.Lent.{cells_of};
 ghost use Rattle.reader.specs.Reader.{run};
 ghost use Rattle.reader.specs.HeldBytes.{held_of};
 ghost use Rattle.decoding.specs.Answers.{Answered};
-ghost use Rattle.decoding.specs.Measured.{tokens};
-ghost use Rattle.lossy.specs.Lossy.{FirstAbsent, AllPresent, put, Reads, AsTheyAre, Grows, SizeIs};
+ghost use Rattle.lossy.specs.Lossy.{Presence, AllPresent, put, Reads, AsTheyAre, Grows, SizeIs};
 
-use decoding::{Decoded, Span};
+use decoding::{DecodeError, Part};
+use memory::Memory;
 use reader::Held;
 
-// The index of the first id without bytes; the number of ids if each has some.
-fn first_absent(offsets: &[u32], blob: &[u8], ids: &[u32]) -> usize
-    ensures { FirstAbsent (tokens offsets.now blob.now) ids.now result }
+// That every id has bytes, or the first that has none.
+fn all_present(memory: Memory<'_>, ids: &[u32]) -> Result<(), DecodeError>
+    ensures { Presence (cells_of memory.entry) ids.now result }
 {
-    let mut index: usize = 0;
-    while index < ids.len() {
-        let Span::Token { start: _, len: _ } = decoding::lookup(offsets, blob, ids[index]) else {
-            return index;
-        };
-        index += 1;
+    for (index, &id) in ids.iter().enumerate() {
+        decoding::lookup(memory, id).ok_or(DecodeError::Absent { len: 0, index, id })?;
     }
-    index
+    Ok(())
+}
+
+// The token of an id that is known to have one.
+fn token_of<'a>(memory: Memory<'a>, id: u32) -> &'a [u8]
+    requires { 1 ≤ length (lookup (cells_of memory) id) }
+    ensures { result.now ≡ lookup (cells_of memory.entry) id }
+{
+    let Part { start, len } = decoding::part_of(memory.offsets, id);
+    &memory.blob[start..start + len]
 }
 
 // What is held after some bytes, and the length of the text that they have given.
@@ -37,192 +42,135 @@ struct Progress {
     len: usize,
 }
 
-// What len bytes more lead to, or that the text is then longer than room.
-#[derive(Clone, Copy)]
-enum Growth {
-    To(Progress),
-    Over,
-}
-
 // Whether a token's bytes stand in the text as they are: nothing is held, and they are UTF-8.
-fn stands(blob: &[u8], start: usize, len: usize, held: Held) -> bool
-    requires { start + len ≤ length blob.now }
-    ensures { T result → AsTheyAre (held_of held) (take len (drop start blob.now)) }
+fn stands(token: &[u8], held: Held) -> bool
+    ensures { T result → AsTheyAre (held_of held) token.now }
 {
-    if held.len > 0 {
-        return false;
-    }
-    match utf8::first_bad(&blob[start..start + len]) {
-        utf8::Text::WellFormed => true,
-        utf8::Text::BadAt(_) => false,
+    match held {
+        Held::Nothing => utf8::first_bad(token).is_none(),
+        _ => false,
     }
 }
 
-// The bytes of a token, counted one by one.
-fn size_bytes(blob: &[u8], start: usize, len: usize, from: Progress, room: usize) -> Growth
-    requires { (start + len ≤ length blob.now) × (from.len ≤ room) }
-    ensures { Grows (held_of from.held) (take len (drop start blob.now)) from.len room result }
+// The bytes of a token, counted one by one; none if the text is then longer than room.
+fn size_bytes(token: &[u8], from: Progress, room: usize) -> Option<Progress>
+    requires { from.len ≤ room }
+    ensures { Grows (held_of from.held) token.now from.len room result }
 {
-    let mut held = from.held;
-    let mut n = from.len;
-    let mut k: usize = 0;
-    while k < len {
-        let pushed = reader::push(held, blob[start + k]);
-        if pushed.len > room - n {
-            return Growth::Over;
+    let mut at = from;
+    for &b in token {
+        let pushed = at.held.push(b);
+        if pushed.len > room - at.len {
+            return None;
         }
-        n += pushed.len;
-        held = pushed.held;
-        k += 1;
+        at = Progress {
+            held: pushed.held,
+            len: at.len + pushed.len,
+        };
     }
-    Growth::To(Progress { held, len: n })
+    Some(at)
 }
 
 // The bytes of a token, counted.
-fn size_token(blob: &[u8], start: usize, len: usize, from: Progress, room: usize) -> Growth
-    requires { (start + len ≤ length blob.now) × (from.len ≤ room) }
-    ensures { Grows (held_of from.held) (take len (drop start blob.now)) from.len room result }
+fn size_token(token: &[u8], from: Progress, room: usize) -> Option<Progress>
+    requires { from.len ≤ room }
+    ensures { Grows (held_of from.held) token.now from.len room result }
 {
-    let held = from.held;
-    let n = from.len;
-    if stands(blob, start, len, held) {
-        if len > room - n {
-            return Growth::Over;
-        }
-        return Growth::To(Progress { held, len: n + len });
+    if !stands(token, from.held) {
+        return size_bytes(token, from, room);
     }
-    size_bytes(blob, start, len, from, room)
+    if token.len() > room - from.len {
+        return None;
+    }
+    Some(Progress {
+        len: from.len + token.len(),
+        ..from
+    })
 }
 
-// The length of a text, or that it is longer than the room for it.
-#[derive(Clone, Copy)]
-enum Size {
-    Fits(usize),
-    Exceeds,
-}
-
-// The size of the lossy text of ids that all have bytes.
-fn size_text(offsets: &[u32], blob: &[u8], ids: &[u32], room: usize) -> Size
-    requires { AllPresent (tokens offsets.now blob.now) ids.now }
-    ensures { SizeIs (lossy (each (lookup (tokens offsets.now blob.now)) ids.now)) room result }
+// The size of the lossy text of ids that all have bytes; none if it is longer than room.
+fn size_text(memory: Memory<'_>, ids: &[u32], room: usize) -> Option<usize>
+    requires { AllPresent (cells_of memory) ids.now }
+    ensures { SizeIs (lossy (each (lookup (cells_of memory.entry)) ids.now)) room result }
 {
-    let mut held = reader::fresh();
-    let mut n: usize = 0;
-    let mut index: usize = 0;
-    while index < ids.len() {
-        let part = decoding::part_of(offsets, ids[index]);
-        let Growth::To(next) = size_token(
-            blob,
-            part.start,
-            part.len,
-            Progress { held, len: n },
-            room,
-        ) else {
-            return Size::Exceeds;
-        };
-        held = next.held;
-        n = next.len;
-        index += 1;
+    let mut at = Progress {
+        held: Held::Nothing,
+        len: 0,
+    };
+    for &id in ids {
+        at = size_token(token_of(memory, id), at, room)?;
     }
-    let last = reader::finish(held);
-    if last.len > room - n {
-        return Size::Exceeds;
+    let last = at.held.finish();
+    if last.len > room - at.len {
+        return None;
     }
-    Size::Fits(n + last.len)
+    Some(at.len + last.len)
 }
 
 // The bytes of a token one by one, with the text that they give written from out's cell `from.len` on.
-fn write_bytes(blob: &[u8], start: usize, len: usize, from: Progress, out: &mut [u8]) -> Progress
-    requires { (start + len ≤ length blob.now)
-        × (from.len + length (run (held_of from.held) (take len (drop start blob.now))).out ≤ length out.old) }
-    ensures reads { Reads (held_of from.held) (take len (drop start blob.now)) from.len result }
-    ensures out_after { out.new ≡ put out.old from.len
-        (run (held_of from.held) (take len (drop start blob.now))).out }
+fn write_bytes(token: &[u8], from: Progress, out: &mut [u8]) -> Progress
+    requires { from.len + length (run (held_of from.held) token.now).out ≤ length out.old }
+    ensures reads { Reads (held_of from.held) token.now from.len result }
+    ensures out_after { out.new ≡ put out.old from.len (run (held_of from.held) token.now).out }
 {
-    let mut held = from.held;
-    let mut n = from.len;
-    let mut k: usize = 0;
-    while k < len {
-        let pushed = reader::push(held, blob[start + k]);
-        let bytes = pushed.bytes;
-        cells::copy(&bytes, 0, pushed.len, out, n);
-        n += pushed.len;
-        held = pushed.held;
-        k += 1;
+    let mut at = from;
+    for &b in token {
+        let pushed = at.held.push(b);
+        let end = at.len + pushed.len;
+        out[at.len..end].copy_from_slice(&pushed.bytes[..pushed.len]);
+        at = Progress {
+            held: pushed.held,
+            len: end,
+        };
     }
-    Progress { held, len: n }
+    at
 }
 
 // The bytes of a token, with the text that they give written from out's cell `from.len` on.
-fn write_token(blob: &[u8], start: usize, len: usize, from: Progress, out: &mut [u8]) -> Progress
-    requires { (start + len ≤ length blob.now)
-        × (from.len + length (run (held_of from.held) (take len (drop start blob.now))).out ≤ length out.old) }
-    ensures reads { Reads (held_of from.held) (take len (drop start blob.now)) from.len result }
-    ensures out_after { out.new ≡ put out.old from.len
-        (run (held_of from.held) (take len (drop start blob.now))).out }
+fn write_token(token: &[u8], from: Progress, out: &mut [u8]) -> Progress
+    requires { from.len + length (run (held_of from.held) token.now).out ≤ length out.old }
+    ensures reads { Reads (held_of from.held) token.now from.len result }
+    ensures out_after { out.new ≡ put out.old from.len (run (held_of from.held) token.now).out }
 {
-    let held = from.held;
-    let n = from.len;
-    if stands(blob, start, len, held) {
-        cells::copy(blob, start, len, out, n);
-        return Progress { held, len: n + len };
+    if !stands(token, from.held) {
+        return write_bytes(token, from, out);
     }
-    write_bytes(blob, start, len, from, out)
+    let end = from.len + token.len();
+    out[from.len..end].copy_from_slice(token);
+    Progress { len: end, ..from }
 }
 
 // Writes the lossy text of ids that all have bytes, which is known to fit.
-fn write_text(offsets: &[u32], blob: &[u8], ids: &[u32], out: &mut [u8])
-    requires { AllPresent (tokens offsets.now blob.now) ids.now
-        × (length (lossy (each (lookup (tokens offsets.now blob.now)) ids.now)) ≤ length out.old) }
-    ensures { out.new ≡ over
-        (lossy (each (lookup (tokens offsets.now blob.now)) ids.now)) out.old }
+fn write_text(memory: Memory<'_>, ids: &[u32], out: &mut [u8])
+    requires { AllPresent (cells_of memory) ids.now
+        × (length (lossy (each (lookup (cells_of memory)) ids.now)) ≤ length out.old) }
+    ensures { out.new ≡ over (lossy (each (lookup (cells_of memory.entry)) ids.now)) out.old }
 {
-    let mut held = reader::fresh();
-    let mut n: usize = 0;
-    let mut index: usize = 0;
-    while index < ids.len() {
-        let part = decoding::part_of(offsets, ids[index]);
-        let next = write_token(blob, part.start, part.len, Progress { held, len: n }, out);
-        held = next.held;
-        n = next.len;
-        index += 1;
+    let mut at = Progress {
+        held: Held::Nothing,
+        len: 0,
+    };
+    for &id in ids {
+        at = write_token(token_of(memory, id), at, out);
     }
-    let last = reader::finish(held);
-    let bytes = last.bytes;
-    cells::copy(&bytes, 0, last.len, out, n);
+    let last = at.held.finish();
+    let end = at.len + last.len;
+    out[at.len..end].copy_from_slice(&last.bytes[..last.len]);
 }
 
-// Lossy text. Every id is looked up and the text measured before anything is written.
-pub fn decode_lossy(
-    single: &[i32],
-    offsets: &[u32],
-    blob: &[u8],
-    roots: &[u64],
-    table: &[u64],
-    ids: &[u32],
-    out: &mut [u8],
-) -> Decoded
-    ensures { Answered (decode_lossy_on
-        (memory single.now offsets.now blob.now roots.now table.now)
-        (length out.old) ids.now) result out.old out.new }
+/// Lossy text, and its length. Every id is looked up and the text measured before anything is written.
+pub fn decode_lossy(memory: Memory<'_>, ids: &[u32], out: &mut [u8]) -> Result<usize, DecodeError>
+    ensures { Answered (decode_lossy_on (cells_of memory.entry) (length out.old) ids.now)
+        result out.old out.new }
 {
-    if memory::too_short(single, offsets, roots) {
-        return Decoded::ShortMemory;
+    if memory.too_short() {
+        return Err(DecodeError::ShortMemory);
     }
-    let index = first_absent(offsets, blob, ids);
-    if index < ids.len() {
-        return Decoded::Absent {
-            len: 0,
-            index,
-            id: ids[index],
-        };
-    }
-    let Size::Fits(len) = size_text(offsets, blob, ids, out.len()) else {
-        return Decoded::Full {
-            len: 0,
-            index: ids.len(),
-        };
-    };
-    write_text(offsets, blob, ids, out);
-    Decoded::Whole { len }
+    all_present(memory, ids)?;
+    let len = size_text(memory, ids, out.len()).ok_or(DecodeError::Full {
+        len: 0,
+        index: ids.len(),
+    })?;
+    write_text(memory, ids, out);
+    Ok(len)
 }
