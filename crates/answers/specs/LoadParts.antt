@@ -14,10 +14,12 @@ use Rattle.refusals.specs.declared.LoadError.{LoadError}
 use Rattle.answers.specs.Answers.{count_of}
 use Rattle.answers.specs.declared.Counts.{Counts}
 
--- Ok: the record passed, and the memory holds its token with those before. Err: by the number that the table gives.
-abbrev pub TakenAs : Form → Room → List Token → List ℕ → Result Build Refusal → List ℤ → (os bl rs : List ℕ) → Nodes → Type 0
-TakenAs form r ts part (Ok st) s os bl rs ns = (us : List Token) × (take_one form r ts part ≡ pass us) × Built us s os bl rs ns st
-TakenAs form r ts part (Err e) s os bl rs ns = take_one form r ts part ≡ refuse (number e)
+-- Ok: the record passed, and the memory holds its token with those before. Err: by the number that the table gives. The room is given by
+-- that of the table, which plays no part in it.
+abbrev pub TakenAs : Form → (ℕ → Room) → List Token → List ℕ → Result Build Refusal → List ℤ → (os bl rs : List ℕ) → Nodes → Type 0
+TakenAs form r ts part (Ok st) s os bl rs ns =
+    (us : List Token) × ((table : ℕ) → take_one form (r table) ts part ≡ pass us) × Built us s os bl rs ns st
+TakenAs form r ts part (Err e) s os bl rs ns = (table : ℕ) → take_one form (r table) ts part ≡ refuse (number e)
 
 -- Ok: the records passed, and the memory holds their tokens. Err: by the number and at the line that the table gives.
 abbrev pub RecordsAs : Form → Bool → Room → List ℕ → Result Build LoadError → List ℤ → (os bl rs : List ℕ) → Nodes → Type 0
