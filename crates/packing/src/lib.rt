@@ -28,6 +28,7 @@ use slots::marks::Marks;
 
 // Places the node whose turn it is, by its labels, which go into the cells lent. Its base goes to its field tail, in place of the link to
 // the next node in order. None: no slot within the capacity.
+// Kept: the nodes and how many are made come one by one, as trie's functions take them, which are called here.
 fn place_node(
     nodes: &mut [Node],
     made: u32,
@@ -112,8 +113,8 @@ fn place_all(
 // ---- the whole
 
 /// Packs the trie that roots and nodes stand for: the node numbers in the roots become words, and the table gets the layout's words with
-/// zeros after them; the answer is how many words the layout has. Nodes and marks are work memory; the marks may hold anything before. None:
-/// the table capacity is below the layout's words, and roots and table hold anything.
+/// zeros after them; the answer is how many words the layout has. Nodes and marks are work memory; the marks may hold anything before.
+/// None: the table capacity is below the layout's words, and roots and table hold anything.
 pub fn pack(work: &mut Work, made: u32, roots: &mut [u64], table: &mut [u64]) -> Option<u32>
     requires { (1 ≤ made) × (made ≤ room work.old.nodes.now) × (65536 ≤ length roots.old) }
     ensures stands { (ts : List Token) → Valid ts → Stands ts roots.old work.old.nodes.now → made ≡ node_count ts

@@ -4,8 +4,8 @@ ghost use Rattle.std.specs.Prelude.{◌≡◌, ◌*◌, ◌%◌, ◌^◌, ◌<�
 use crate::search;
 
 /// A bit for each slot that is taken and for each base that is used, in the first `end` words of both runs, and for each label the word
-/// where the last node of that label alone was placed. The words are there in whole blocks of four, one at least, and every slot is a number
-/// of 32 bits.
+/// where the last node of that label alone was placed. The words are there in whole blocks of four, one at least, and every slot is a
+/// number of 32 bits.
 #[derive(Drop)]
 pub struct Marks<'a> {
     pub used: &'a mut [u64],

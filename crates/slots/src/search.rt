@@ -68,6 +68,7 @@ pub(crate) fn mark_all(marks: &mut [u64], base: usize, labels: &[u8])
 // ---- where a search begins
 
 // The first word from from on that is not full, end if there is none.
+// Kept: end is where the next search begins, so that an Option would become it at once.
 pub fn open_from(used: &[u64], from: usize, end: usize) -> usize
     requires { (from ≤ end) × (end ≤ length used.now) }
     ensures { result ≡ open_on used.now from end }
