@@ -112,7 +112,8 @@ module _ (ps : List (List ℕ)) (I : List ℕ → ℕ) (goal : List Put) (m : No
 
     module _ (U' B' C' : List ℕ) where
       -- it has its base b: the next one follows
-      pub placed_on : (b : ℕ) → node < room m → at.from ≤ end → end % 4 ≡ 0 → PlacedAt (labels ps) A.xs p end U' B' C' (Some b) → b < end * 64
+      pub placed_on : (b : ℕ) → node < room m → at.from ≤ end → end % 4 ≡ 0 → PlacedAt (labels ps) A.xs p end U' B' C' (Some b)
+          → b < end * 64
           → Amid ps I goal (set_tail m node b) U' B' C' (see m node).tail (fuel - 1) (onward U' at end b) end
       unfolding put
       placed_on b fit below four P low = record {
