@@ -1,4 +1,3 @@
--- What the proofs of this crate share.
-pub mod RuleCases
-pub mod LineReading
+-- What the proofs of this crate and the crates above cite.
 pub mod Early
+pub mod Literals

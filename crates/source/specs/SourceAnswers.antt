@@ -1,61 +1,54 @@
 -- What the answers of `source` mean, in the terms of `spec`. Assumes nothing.
-use Rattle.std.specs.Prelude.{Bool, ◌||◌, cond, List, ℕ, ◌≤◌, zero, suc, eqb, take}
-use Rattle.spec.specs.Check.{Check, pass, refuse}
+use Rattle.std.specs.Prelude.{◌||◌, cond, List, ℕ, ◌≤◌, eqb, take, Option, None, Some, Result, Ok, Err}
+use Rattle.spec.specs.Check.{Check, refuse}
 use Rattle.spec.specs.Token.{Token}
-use Rattle.spec.specs.Load.{vocabulary, nowhere, line, offset, byte, halts, goes}
+use Rattle.spec.specs.Load.{vocabulary, halts, goes}
 use Rattle.spec.specs.Load as spec
-use Rattle.source.specs.declared.read.Read.{Read}
-use Rattle.source.specs.declared.Form.{Form}
-use Rattle.source.specs.declared.Place.{Place}
-use Rattle.source.specs.declared.Start.{Start}
+use Rattle.refusals.specs.declared.Refusal.{Refusal}
+use Rattle.refusals.specs.declared.LoadError.{LoadError}
+use Rattle.refusals.specs.Numbers.{number}
+use Rattle.refusals.specs.Places.{place_of}
+use Rattle.source.specs.declared.read.Found.{Found}
+use Rattle.source.specs.declared.Edition.{Edition}
+use Rattle.source.specs.declared.Plan.{Plan}
 
 -- ---- a form
 
+-- the edition of this number: "any edition but 1 and 2 with 34"
+abbrev pub edition_told : ℕ → Result Edition Refusal
+edition_told n = cond (eqb n 1) (Ok Edition.First) (cond (eqb n 2) (Ok Edition.Second) (Err Refusal.NoEdition))
+
+abbrev pub number_of : Edition → ℕ
+number_of Edition.First = 1
+number_of Edition.Second = 2
+
 -- the form of a source; an edition that there is not is 0
-abbrev pub form_of : Form → spec.Form
-form_of Form.Edition1 = vocabulary 1
-form_of Form.Edition2 = vocabulary 2
-form_of Form.NoEdition = vocabulary 0
+abbrev pub form_of : Option Edition → spec.Form
+form_of (Some e) = vocabulary (number_of e)
+form_of None = vocabulary 0
 
 -- the number of an edition that there is, else 0
 abbrev pub known : ℕ → ℕ
 known edition = cond (eqb edition 1 || eqb edition 2) edition 0
 
--- not: "any edition but 1 and 2"
-abbrev pub is_edition : spec.Form → Bool
-is_edition (vocabulary edition) = eqb edition 1 || eqb edition 2
-
--- ---- a refusal
-
--- document 01's place of a refusal: "none, line, offset, byte"
-abbrev pub place_of : Place → spec.Place
-place_of Place.Nowhere = nowhere
-place_of (Place.Line n) = line n
-place_of (Place.Offset n) = offset n
-place_of (Place.Byte b) = byte b
-
--- a refusal of this number at this place, or what follows where the number is 0
-abbrev pub starts_with : ℕ → spec.Place → spec.Start → spec.Start
-starts_with zero place rest = rest
-starts_with (suc n) place rest = halts (suc n) place
+-- ---- a start
 
 -- the start of a load of the source s
-abbrev pub start_is : List ℕ → Start → spec.Start
-start_is s st = starts_with st.number (place_of st.place) (goes st.plan.partial (take st.plan.end s))
+abbrev pub start_is : List ℕ → Result Plan LoadError → spec.Start
+start_is s (Ok plan) = goes plan.partial (take plan.end s)
+start_is s (Err e) = halts (number e.refusal) (place_of e.place)
 
 -- ---- a record
 
--- what follows, unless a rule before it failed with the number n
-abbrev pub unless : {A : Type 0} → ℕ → Check A → Check A
-unless zero rest = rest
-unless (suc n) rest = refuse (suc n)
+-- what follows, unless a rule before it refused
+abbrev pub unless : {A : Type 0} → Result (Unit {0}) Refusal → Check A → Check A
+unless (Ok u) rest = rest
+unless (Err r) rest = refuse (number r)
 
--- the token of this id whose bytes are the first n cells, or the refusal's number
-abbrev pub read_of : List ℕ → Read → Check Token
-read_of cells (Read.Found id n) = pass (record { id = id; bytes = take n cells })
-read_of cells (Read.Refused n) = refuse n
+-- the token that was found: its bytes are the first of the cells
+abbrev pub token_in : List ℕ → Found → Token
+token_in cells f = record { id = f.id; bytes = take f.len cells }
 
 -- the bytes are in the cells, all of them
-abbrev pub Short : Read → Type 0
-Short (Read.Found id n) = n ≤ 255
-Short (Read.Refused n) = Unit {0}
+abbrev pub Short : Found → Type 0
+Short f = f.len ≤ 255

@@ -1,20 +1,19 @@
--- `source::read::read_bytes` meets its contract. Assumes nothing.
-use Rattle.source.proofs.LineReading.{literal-bad, literal-refused, literal-short, literal-found}
+-- `source::read::read_bytes` meets its contract, where the literal is good. Assumes nothing.
+use mathlib.Core.Path.{sym, ◌∙◌}
+use native.Mathlib.Omega.{arith}
+use Rattle.spec.specs.Check.{given}
+use Rattle.spec.specs.Literal.{read}
+use Rattle.source.proofs.Literals.{good, stored-front}
 use Rattle.source.proofs.read.read_bytes.Goals as goal
 
-pub returns-in_default : goal.returns-in_default
-returns-in_default c = record { means = literal-bad _ _ _ _ c.in_default.ensures.answer; short = tt }
-
-pub returns-then-refusal-ne0 : goal.returns-then-refusal-ne0
-returns-then-refusal-ne0 c = record {
-  means = literal-refused _ _ _ _ _ c.in-Length.ensures.answer _ c.length_refusal-refusal.ensures c.if-refusal-ne0.true;
-  short = tt;
-}
-
-pub returns : goal.returns
-returns c =
-    let e = c.in-Length.ensures.answer in record {
-      means = literal-found _ _ _ c.args.id _ e _ c.length_refusal-refusal.ensures c.if-refusal-ne0.false c.args.cells.now _ c.requires
-          c.in-Length.ensures.cells;
-      short = literal-short _ _ _ c.args.id _ e _ c.length_refusal-refusal.ensures c.if-refusal-ne0.false;
-    }
+pub returns-clause-means : goal.returns-clause-means
+unfolding given
+returns-clause-means c =
+    let a = c.args in
+    let given = c.parse_python_literal_into.ensures in
+    let len = c.in_ok-len.len in
+    let g = good a.edition a.part.now len (sym c.in_ok-len.ensures.ok_part ∙ given.answer) in
+    let bytes = (read a.edition a.part.now).bytes in
+    let front = stored-front bytes a.cells.now len g.count (omega (arith, c.in_ok-length_refusal.ensures.short)) in
+    rw (given.cells, front)
+    (sym (rw g.is (c.in_ok-length_refusal.ensures.rule (record { id = a.id; bytes = bytes }) g.count)))
