@@ -13,6 +13,17 @@ pub enum Piece {
     Point(u32, usize),
 }
 
+impl Piece {
+    // How many bytes behind the first belong to it.
+    pub fn more(self) -> usize
+        ensures { result ≡ (piece_of self).more }
+    {
+        match self {
+            Piece::Byte(_, more) | Piece::Point(_, more) => more,
+        }
+    }
+}
+
 // The escape `x` with the bytes behind that letter: two digits, a byte in a `b` literal, else a code point.
 #[tactic(auto, unfolding(spec::specs::Literal::byte_escape, spec::specs::Options::bind))]
 fn byte_escape(digits: &[u8], in_bytes: bool) -> Option<Piece>

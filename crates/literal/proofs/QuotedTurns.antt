@@ -15,8 +15,6 @@ use Rattle.spec.specs.Digits.{hex_run, octal_run}
 use Rattle.spec.specs.Literal.{Piece, Escapes, backslash, letter_b, letters, more_letters, look_up, escaped, byte_escape, point_escape}
 use Rattle.spec.specs.Literal.{escape, octal_escape, escape2, escapes_of, piece_at, Read, bad, put, inside, is_quote, quoted, read}
 use Rattle.spec.specs.Literal.{literal}
-use Rattle.escapes.specs.Answers.{piece_of}
-use Rattle.escapes.specs.declared.Piece.{Piece as Found}
 use Rattle.literal.specs.Answers.{Left, left, stored}
 use Rattle.numbers.proofs.Numbers.{hex-long, octal-within, octal_three}
 
@@ -184,10 +182,6 @@ bounds edition in_b quote b s p e = subst (Short s) e (go (eqb b backslash) (eqb
     go false true = tt
     go false false = (lit≤ tt, omega arith)
 
--- the piece that the code finds is the one that stands there
-pub found : (f q : Found) (at : Option Piece) → Some (piece_of f) ≡ at → f ≡ q → at ≡ Some (piece_of q)
-found f q at e i = sym e ∙ ap (λ (z : Found). Some (piece_of z)) i
-
 -- ── A turn ───────────────────────────────────────────────────────────
 
 -- a piece that is read is written
@@ -298,3 +292,7 @@ module _ (edition : ℕ) where
       go : (c : Bool) → cond c (Some (0 + length bs)) None ≡ option_map length (cond c (Some bs) None)
       go true = ap {B = Option ℕ} Some (zero-add (length bs))
       go false = refl
+
+pub ruleset turns = (part-length, bounds, goes-bad, goes-on, goes-end)
+
+pub ruleset quotes = (bad-start, too_short, no-quote, not-closed, all_closed)

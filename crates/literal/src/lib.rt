@@ -6,6 +6,7 @@ ghost use Rattle.std.specs.Prelude.{◌≡◌, ◌+◌, ◌^◌, ◌<◌, length
 ghost use Rattle.std.proofs.lemmas.List.Edits.{sets};
 ghost use Rattle.spec.specs.Literal.{escapes_of, inside, is_quote, quoted, read, literal};
 ghost use Rattle.spec.specs.Utf8.{utf8_of};
+ghost use Rattle.escapes.specs.Answers.{piece_of};
 ghost use Rattle.literal.specs.Answers.{stored, ended, left};
 
 use characters::Encoded;
@@ -32,7 +33,22 @@ fn put_point(res: &mut [u8], at: usize, point: u32) -> usize
     at + len
 }
 
+// The bytes of a piece go to the places from `at` on, as far as there are any. The place behind them.
+fn put_piece(res: &mut [u8], at: usize, piece: Piece) -> usize
+    requires { at < 2 ^ 63 }
+    ensures { (result ≡ at + length (piece_of piece).bytes) × (res.new ≡ sets res.old at (piece_of piece).bytes) }
+{
+    match piece {
+        Piece::Byte(b, _) => {
+            put(res, at, b);
+            at + 1
+        }
+        Piece::Point(c, _) => put_point(res, at, c),
+    }
+}
+
 // What stands between the quotes.
+#[tactic(auto, using(crate::proofs::QuotedTurns::turns))]
 fn inside(text: &[u8], quote: u8, in_bytes: bool, edition: u32, res: &mut [u8]) -> Option<usize>
     ensures { ended result res.new
         ≡ left res.old 0 (inside (escapes_of edition) in_bytes quote text.now 0) }
@@ -40,17 +56,9 @@ fn inside(text: &[u8], quote: u8, in_bytes: bool, edition: u32, res: &mut [u8]) 
     let mut rest = text;
     let mut n = 0;
     while let Some((&b, behind)) = rest.split_first() {
-        match escapes::piece_at(b, behind, quote, in_bytes, edition)? {
-            Piece::Byte(b, more) => {
-                put(res, n, b);
-                n += 1;
-                rest = &behind[more..];
-            }
-            Piece::Point(c, more) => {
-                n = put_point(res, n, c);
-                rest = &behind[more..];
-            }
-        }
+        let piece = escapes::piece_at(b, behind, quote, in_bytes, edition)?;
+        n = put_piece(res, n, piece);
+        rest = &behind[piece.more()..];
     }
     Some(n)
 }
@@ -63,6 +71,7 @@ fn is_quote(b: u8) -> bool
 }
 
 // Quotes and what they hold.
+#[tactic(auto, using(crate::proofs::QuotedTurns::quotes))]
 fn quoted(text: &[u8], in_bytes: bool, edition: u32, res: &mut [u8]) -> Option<usize>
     ensures { ended result res.new ≡ left res.old 0 (quoted (escapes_of edition) in_bytes text.now) }
 {
