@@ -2,4 +2,4 @@
 pub mod Spaces
 pub mod LineTurns
 pub mod LinesLeft
-pub mod Parts
+pub mod Cut

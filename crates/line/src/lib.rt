@@ -80,7 +80,7 @@ pub struct Fields<'a> {
 }
 
 /// The fields of `line`, or refusal 3, 4 or 5.
-#[tactic(auto, using(crate::proofs::Parts::in_line), unfolding(spec::specs::Line::fields, spec::specs::Check::given, spec::specs::Check::need))]
+#[tactic(auto, using(crate::proofs::Cut::ends), unfolding(spec::specs::Line::fields, spec::specs::Check::given, spec::specs::Check::need))]
 pub fn split_fields(line: &[u8]) -> Result<Fields<'_>, Refusal>
     ensures means { checked fields_of result ≡ fields line.now }
     ensures filled { IfOk result NoneEmpty }

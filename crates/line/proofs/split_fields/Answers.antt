@@ -1,7 +1,7 @@
 -- `line::split_fields` meets its contract, where the line has fields. Assumes nothing.
 use mathlib.Core.Path.{sym, ◌∙◌}
 use native.Mathlib.Omega.{arith}
-use Rattle.line.proofs.Parts.{found}
+use Rattle.line.proofs.Cut.{found}
 use Rattle.line.proofs.split_fields.Goals as goal
 
 pub returns-clause-means : goal.returns-clause-means

@@ -15,7 +15,7 @@ use Rattle.spec.specs.Line.{Fields, first_space, last_space, parted, fields}
 use Rattle.line.proofs.Spaces.{first-lt, last_lt}
 
 -- that the places of the spaces are in the line
-pub ruleset in_line = (first-lt, last_lt)
+pub ruleset ends = (first-lt, last_lt)
 
 -- the parts as the code takes them
 abbrev pub cut : ℕ → ℕ → List ℕ → Fields
