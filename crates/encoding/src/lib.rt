@@ -37,11 +37,12 @@ pub fn encode_sequential_bytes(
     let mut offset = 0;
     let mut count = 0;
     while offset < src.len() {
+        let byte = src[offset];
         let Some(found) = matching::match_at(memory, src, offset) else {
             return Err(EncodeError::NoToken {
                 count,
                 offset,
-                byte: src[offset],
+                byte,
             });
         };
         if count >= out.len() {

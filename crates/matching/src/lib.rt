@@ -87,7 +87,10 @@ fn child_of(table: &[u64], word: u64, byte: u8) -> Option<u64>
 {
     let label = u64::from(byte);
     let next = *table.get(((word >> 32) ^ label) as usize)?;
-    (next != 0 && next % 256 == label).then_some(next)
+    if next == 0 || next % 256 != label {
+        return None;
+    }
+    Some(next)
 }
 
 // The walk from a root word over the bytes after the first two.
