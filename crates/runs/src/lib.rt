@@ -51,6 +51,7 @@ pub fn run(
 {
     let mut at = from;
     let mut count = start;
+    // Kept: no plainer as a `for`, since each step is as long as its token.
     while at < stop {
         if undecided_at(memory, src, at) {
             return Ran::Waiting { at, count };
