@@ -22,8 +22,6 @@ use Rattle.reader.specs.declared.Held.{Held}
 use Rattle.reader.specs.declared.Pushed.{Pushed}
 use Rattle.lossy.specs.declared.Progress.{Progress}
 use Rattle.lossy.specs.Lossy.{put, Reads, AsTheyAre}
-use borrow.Rule.Slice.PartMut.{put_mid}
-use Rattle.std.proofs.lemmas.Slice.{put_mid-paste}
 use Rattle.std.proofs.lemmas.List.Edits.{paste-paste}
 use Rattle.reader.specs.declared.Held.TheVariants.{Nothing}
 
@@ -103,10 +101,6 @@ put-more d at x y h =
 pub length-put : (d : List ℕ) (at : ℕ) (x : List ℕ) → at + length x ≤ length d → length (put d at x) ≡ length d
 length-put d at x h = ap length (put-paste d at x) ∙ length-paste d at x (length x) h (omega arith)
 
--- a copy of x over the k elements from a place on
-pub part_put : (d : List ℕ) (at k : ℕ) (new x : List ℕ) → new ≡ x → length x ≡ k → put_mid at k d new ≡ put d at x
-part_put d at k new x e l = put_mid-paste at k d new x (length x) e l refl ∙ sym (put-paste d at x)
-
 -- the front of an array that has the bytes x, and zeros after them
 pub array-front : (x bytes : List ℕ) (len n : ℕ) → bytes ≡ padded x n → len ≡ length x → take len bytes ≡ x
 array-front x bytes len n e l = rw (e, l, padded-take n x)
@@ -140,15 +134,16 @@ module _ (h t : List ℕ) (n : ℕ) (before : List ℕ) (held : Held) (len : ℕ
       writing-room = omega (arith, w.fits, split h t n held len b rest s e w.along r p)
 
       -- one byte more
-      pub writing_more : (k : ℕ) (new : List ℕ) → k ≡ r.len → new ≡ take r.len r.bytes → Writing h t n before r.held (len + r.len) rest
-          (put_mid len k after new)
-      writing_more k new ek c =
+      pub writing_more : (next : List ℕ)
+          → (len + length (take r.len r.bytes) ≤ length after → next ≡ put after len (take r.len r.bytes))
+          → Writing h t n before r.held (len + r.len) rest next
+      writing_more next c =
           let x = (push_of (held_of held) b).out in
           let l : r.len ≡ length x = pushed-len h t n held len b rest s e w.along r p in
-          let front : new ≡ x = c ∙ array-front x r.bytes r.len 6 (ap (λ (y : Pushed). y.bytes) p) l in
-          let put-it : put_mid len k after new ≡ put after len x = part_put after len k new x front (sym (ek ∙ l)) in
-          let size : length (put_mid len k after new) ≡ length after =
-          ap length put-it ∙ length-put after len x (omega (arith, writing-room)) in
+          let front : take r.len r.bytes ≡ x = array-front x r.bytes r.len 6 (ap (λ (y : Pushed). y.bytes) p) l in
+          let put-it : next ≡ put after len x =
+          c (omega (arith, writing-room, ap length front)) ∙ ap (put after len) front in
+          let size : length next ≡ length after = ap length put-it ∙ length-put after len x (omega (arith, writing-room)) in
           let bytes : (run (held_of held) s).out ≡ x ++ (run (held_of r.held) rest).out =
           ap (λ (u : Turn). u.out) (step h t n held len b rest s e w.along r p) in
           record {
@@ -270,12 +265,14 @@ module _ (m : Memory) (ids : List ℕ) where
       pub last-room : n + r.len ≤ length after
       last-room = omega (arith, w.fits, ap length (text-last k held h), ap (λ (x : Pushed). x.len) p)
 
-      pub left-none : (k : ℕ) (new : List ℕ) → k ≡ r.len → new ≡ take r.len r.bytes
-          → put_mid n k after new ≡ over (lossy (each (lookup m) ids)) before
-      left-none size new ek c =
+      pub left-none : (next : List ℕ)
+          → (n + length (take r.len r.bytes) ≤ length after → next ≡ put after n (take r.len r.bytes))
+          → next ≡ over (lossy (each (lookup m) ids)) before
+      left-none next c =
           let x = (finish_of (held_of held)).out in
           let l : r.len ≡ length x = ap (λ (y : Pushed). y.len) p in
-          part_put after n size new x (c ∙ array-front x r.bytes r.len 6 (ap (λ (y : Pushed). y.bytes) p) l) (sym (ek ∙ l))
+          let front : take r.len r.bytes ≡ x = array-front x r.bytes r.len 6 (ap (λ (y : Pushed). y.bytes) p) l in
+          c (omega (arith, last-room, ap length front)) ∙ ap (put after n) front
           ∙ ap (put after n) (sym (text-last k held h)) ∙ sym w.text ∙ rw zero-add
 
 finish-few : (h : List ℕ) → length (finish_of h).out ≤ 6
@@ -299,6 +296,3 @@ module _ (held : Held) (t : List ℕ) (n : ℕ) (e : AsTheyAre (held_of held) t)
 
   pub stands-reads : (len : ℕ) → len ≡ length t → Reads (held_of held) t n (record { held = held; len = n + len })
   stands-reads len l = record { held = ap (λ (u : Turn). u.held) (sym e); len = ap (λ (k : ℕ). n + k) l ∙ sym stands-long }
-
-  pub stands-put : (d new : List ℕ) (k : ℕ) → new ≡ t → k ≡ length t → put_mid n k d new ≡ put d n (run (held_of held) t).out
-  stands-put d new k c l = part_put d n k new t c (sym l) ∙ ap (λ (u : Turn). put d n u.out) (sym e)

@@ -35,6 +35,10 @@ abbrev pub Grows : List ℕ → List ℕ → ℕ → ℕ → Option Progress →
 Grows h t n room (Some p) = Reads h t n p × (p.len ≤ room)
 Grows h t n room None = room < n + length (run h t).out
 
+-- after is before with the text of the bytes t from a place on, if before has room for it
+abbrev pub Writes : List ℕ → List ℕ → ℕ → List ℕ → List ℕ → Type 0
+Writes h t n before after = n + length (run h t).out ≤ length before → after ≡ put before n (run h t).out
+
 -- the length of a text within room, or that it is longer
 abbrev pub SizeIs : List ℕ → ℕ → Option ℕ → Type 0
 SizeIs text room (Some len) = (len ≡ length text) × (len ≤ room)

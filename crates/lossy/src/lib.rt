@@ -7,10 +7,9 @@ ghost use Rattle.spec.specs.Lists.{each, over};
 ghost use Rattle.spec.specs.Utf8.{lossy};
 ghost use Rattle.spec.specs.Decode.{lookup, decode_lossy_on};
 ghost use Rattle.memory.specs.Lent.{cells_of};
-ghost use Rattle.reader.specs.Reader.{run};
 ghost use Rattle.reader.specs.HeldBytes.{held_of};
 ghost use Rattle.decoding.specs.Answers.{Answered};
-ghost use Rattle.lossy.specs.Lossy.{Presence, AllPresent, put, Reads, AsTheyAre, Grows, SizeIs};
+ghost use Rattle.lossy.specs.Lossy.{Presence, AllPresent, put, AsTheyAre, Grows, Writes, SizeIs};
 
 use decoding::{DecodeError, Part};
 use memory::Memory;
@@ -52,10 +51,21 @@ fn stands(token: &[u8], held: Held) -> bool
     }
 }
 
-// The bytes of a token, counted one by one; none if the text is then longer than room.
-fn size_bytes(token: &[u8], from: Progress, room: usize) -> Option<Progress>
-    requires { from.len ≤ room }
-    ensures { Grows (held_of from.held) token.now from.len room result }
+// Bytes into out from its cell `at` on, if out goes so far.
+fn put_at(bytes: &[u8], at: usize, out: &mut [u8])
+    ensures { at + length bytes.now ≤ length out.old → out.new ≡ put out.old at bytes.now }
+{
+    if at <= out.len() && bytes.len() <= out.len() - at {
+        out[at..at + bytes.len()].copy_from_slice(bytes);
+    }
+}
+
+// The bytes of a token, read one by one: what they give out is put into out from its cell `from.len` on. None if the text is then longer
+// than room. A size alone is asked by an empty out.
+fn read_bytes(token: &[u8], from: Progress, room: usize, out: &mut [u8]) -> Option<Progress>
+    requires { (from.len ≤ room) × (length out.old ≤ room) }
+    ensures size { Grows (held_of from.held) token.now from.len room result }
+    ensures written { Writes (held_of from.held) token.now from.len out.old out.new }
 {
     let mut at = from;
     for &b in token {
@@ -63,6 +73,7 @@ fn size_bytes(token: &[u8], from: Progress, room: usize) -> Option<Progress>
         if pushed.len > room - at.len {
             return None;
         }
+        put_at(&pushed.bytes[..pushed.len], at.len, out);
         at = Progress {
             held: pushed.held,
             len: at.len + pushed.len,
@@ -71,91 +82,45 @@ fn size_bytes(token: &[u8], from: Progress, room: usize) -> Option<Progress>
     Some(at)
 }
 
-// The bytes of a token, counted.
-fn size_token(token: &[u8], from: Progress, room: usize) -> Option<Progress>
-    requires { from.len ≤ room }
-    ensures { Grows (held_of from.held) token.now from.len room result }
+// The bytes of a token, read.
+fn read_token(token: &[u8], from: Progress, room: usize, out: &mut [u8]) -> Option<Progress>
+    requires { (from.len ≤ room) × (length out.old ≤ room) }
+    ensures size { Grows (held_of from.held) token.now from.len room result }
+    ensures written { Writes (held_of from.held) token.now from.len out.old out.new }
 {
     if !stands(token, from.held) {
-        return size_bytes(token, from, room);
+        return read_bytes(token, from, room, out);
     }
     if token.len() > room - from.len {
         return None;
     }
+    put_at(token, from.len, out);
     Some(Progress {
         len: from.len + token.len(),
         ..from
     })
 }
 
-// The size of the lossy text of ids that all have bytes; none if it is longer than room.
-fn size_text(memory: Memory<'_>, ids: &[u32], room: usize) -> Option<usize>
-    requires { AllPresent (cells_of memory) ids.now }
-    ensures { SizeIs (lossy (each (lookup (cells_of memory.entry)) ids.now)) room result }
+// The size of the lossy text of ids that all have bytes, which is written if out has room for it; none if it is longer than room.
+fn read_text(memory: Memory<'_>, ids: &[u32], room: usize, out: &mut [u8]) -> Option<usize>
+    requires { AllPresent (cells_of memory) ids.now × (length out.old ≤ room) }
+    ensures size { SizeIs (lossy (each (lookup (cells_of memory.entry)) ids.now)) room result }
+    ensures written { length (lossy (each (lookup (cells_of memory.entry)) ids.now)) ≤ length out.old
+        → out.new ≡ over (lossy (each (lookup (cells_of memory.entry)) ids.now)) out.old }
 {
     let mut at = Progress {
         held: Held::Nothing,
         len: 0,
     };
     for &id in ids {
-        at = size_token(token_of(memory, id), at, room)?;
+        at = read_token(token_of(memory, id), at, room, out)?;
     }
     let last = at.held.finish();
     if last.len > room - at.len {
         return None;
     }
+    put_at(&last.bytes[..last.len], at.len, out);
     Some(at.len + last.len)
-}
-
-// The bytes of a token one by one, with the text that they give written from out's cell `from.len` on.
-fn write_bytes(token: &[u8], from: Progress, out: &mut [u8]) -> Progress
-    requires { from.len + length (run (held_of from.held) token.now).out ≤ length out.old }
-    ensures reads { Reads (held_of from.held) token.now from.len result }
-    ensures out_after { out.new ≡ put out.old from.len (run (held_of from.held) token.now).out }
-{
-    let mut at = from;
-    for &b in token {
-        let pushed = at.held.push(b);
-        let end = at.len + pushed.len;
-        out[at.len..end].copy_from_slice(&pushed.bytes[..pushed.len]);
-        at = Progress {
-            held: pushed.held,
-            len: end,
-        };
-    }
-    at
-}
-
-// The bytes of a token, with the text that they give written from out's cell `from.len` on.
-fn write_token(token: &[u8], from: Progress, out: &mut [u8]) -> Progress
-    requires { from.len + length (run (held_of from.held) token.now).out ≤ length out.old }
-    ensures reads { Reads (held_of from.held) token.now from.len result }
-    ensures out_after { out.new ≡ put out.old from.len (run (held_of from.held) token.now).out }
-{
-    if !stands(token, from.held) {
-        return write_bytes(token, from, out);
-    }
-    let end = from.len + token.len();
-    out[from.len..end].copy_from_slice(token);
-    Progress { len: end, ..from }
-}
-
-// Writes the lossy text of ids that all have bytes, which is known to fit.
-fn write_text(memory: Memory<'_>, ids: &[u32], out: &mut [u8])
-    requires { AllPresent (cells_of memory) ids.now
-        × (length (lossy (each (lookup (cells_of memory)) ids.now)) ≤ length out.old) }
-    ensures { out.new ≡ over (lossy (each (lookup (cells_of memory.entry)) ids.now)) out.old }
-{
-    let mut at = Progress {
-        held: Held::Nothing,
-        len: 0,
-    };
-    for &id in ids {
-        at = write_token(token_of(memory, id), at, out);
-    }
-    let last = at.held.finish();
-    let end = at.len + last.len;
-    out[at.len..end].copy_from_slice(&last.bytes[..last.len]);
 }
 
 /// Lossy text, and its length. Every id is looked up and the text measured before anything is written.
@@ -167,10 +132,11 @@ pub fn decode_lossy(memory: Memory<'_>, ids: &[u32], out: &mut [u8]) -> Result<u
         return Err(DecodeError::ShortMemory);
     }
     all_present(memory, ids)?;
-    let len = size_text(memory, ids, out.len()).ok_or(DecodeError::Full {
+    let room = out.len();
+    let len = read_text(memory, ids, room, &mut []).ok_or(DecodeError::Full {
         len: 0,
         index: ids.len(),
     })?;
-    write_text(memory, ids, out);
+    read_text(memory, ids, room, out);
     Ok(len)
 }

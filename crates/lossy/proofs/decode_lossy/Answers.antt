@@ -1,5 +1,5 @@
 -- `lossy::decode_lossy` meets its contract: the first absent id, then the size of the text, then the text. Assumes nothing.
-use Rattle.std.proofs.Common.{◌≡◌, ap, subst, ◌∙◌, length, ℕ}
+use Rattle.std.proofs.Common.{◌≡◌, arith, ap, subst, ◌∙◌, length, ℕ}
 use Rattle.std.proofs.lemmas.Result.{err_from_is_err_and}
 use Rattle.std.specs.Prelude.{Option}
 use Rattle.std.specs.Option.{ok_or}
@@ -30,7 +30,7 @@ returns-in_err-len c =
     let e = c.in_err-len.ensures in
     let gone : c.in_err-len.field-0.0 ≡ Full 0 (length a.ids.now) =
     cc (e.value ∙ ap (λ (o : Option ℕ). ok_or o (Full 0 (length a.ids.now))) e.ok_part) in
-    let long = subst (SizeIs (lossy (each (lookup m) a.ids.now)) (length a.out.now)) e.ok_part c.size_text.ensures in
+    let long = subst (SizeIs (lossy (each (lookup m) a.ids.now)) (length a.out.now)) e.ok_part c.read_text.ensures.size in
     rw (p.1, p.2, gone)
     (lossy-answered-full m a.ids.now a.out.now (length a.out.now) c.if-too_short.ensures c.in_ok-all_present.ensures long)
 
@@ -39,6 +39,6 @@ returns c =
     let a = c.args in
     let m = cells_of a.memory in
     let e = c.in_ok-len.ensures in
-    let s = subst (SizeIs (lossy (each (lookup m) a.ids.now)) (length a.out.now)) e.ok_part c.size_text.ensures in
+    let s = subst (SizeIs (lossy (each (lookup m) a.ids.now)) (length a.out.now)) e.ok_part c.read_text.ensures.size in
     lossy-answered-whole m a.ids.now a.out.now (length a.out.now) c.if-too_short.ensures c.in_ok-all_present.ensures
-    c.in_ok-len.len c.write_text.new.out s.0 s.1 c.write_text.ensures
+    c.in_ok-len.len c.read_text-2.new.out s.0 s.1 (c.read_text-2.ensures.written (omega (arith, s.0, s.1)))
