@@ -65,6 +65,7 @@ pub fn is_blank(line: &[u8]) -> bool
 }
 
 /// The bytes of a character: `len` of them, and zeros.
+// Kept: without the heap a value has room for the four bytes that a character can take, and says how many it has.
 #[derive(Clone, Copy)]
 pub struct Encoded {
     pub bytes: [u8; 4],
