@@ -5,122 +5,113 @@
 // bytes, text and lossy text. `cases.py` makes the cases and, by Python's own means, the answers.
 #![tactic(auto)]
 
-use cases::{unhex, write, write_bytes, write_number};
-use line::{Fields, NextLine};
-use literal::Literal;
-use numbers::Number;
+use cases::{unhex, write_bytes};
+use line::Fields;
 use std::io;
+use std::io::Read;
 
 mod decode;
+mod lent;
 mod runs;
 mod texts;
 
-// What a literal of an edition stands for, of at most 64 bytes.
-fn literal_case(rt: &impl Print, text: &[u8], edition: u32) -> io::Result<()> {
-    let mut bytes = [0u8; 64];
+// What a literal of an edition stands for, which has no more bytes than the literal.
+fn literal_case(rt: &(impl AllocGlobal + Print), text: &[u8], edition: u32) -> io::Result<()> {
+    let mut bytes = vec![in rt.alloc(); 0; text.len()]?;
     match literal::parse_python_literal_into(text, edition, &mut bytes) {
-        Literal::Length(n) => {
-            if n <= 64 {
-                write_bytes(rt, &bytes[..n])?;
-            }
-            Ok(())
+        Some(length) => {
+            bytes.truncate(length);
+            write_bytes(rt, &bytes)
         }
-        Literal::Bad => write(rt, b"refused 12"),
+        None => print!(rt; "refused 12"),
     }
 }
 
 // A number, or the refusal of one that is bad.
 fn number_case(rt: &impl Print, text: &[u8], limit: u64, refusal: u64) -> io::Result<()> {
     match numbers::digits(text, limit) {
-        Number::Value(v) => write_number(rt, v),
-        Number::Bad => {
-            write(rt, b"refused ")?;
-            write_number(rt, refusal)
-        }
+        Some(v) => print!(rt; "{v}"),
+        None => print!(rt; "refused {refusal}"),
     }
 }
 
 // The value of a byte as a hexadecimal digit, if it is one.
 fn digit_case(rt: &impl Print, text: &[u8]) -> io::Result<()> {
-    if text.len() == 0 {
+    let Some(byte) = text.first() else {
         return Ok(());
-    }
-    match numbers::hex_digit(text[0]) {
-        Number::Value(v) => write_number(rt, v),
-        Number::Bad => write(rt, b"none"),
+    };
+    match numbers::hex_digit(*byte) {
+        Some(v) => print!(rt; "{v}"),
+        None => print!(rt; "none"),
     }
 }
 
 // The three fields of a line, or its refusal.
 fn fields_case(rt: &impl Print, text: &[u8]) -> io::Result<()> {
     match line::split_fields(text) {
-        Fields::Found { first, last } => {
-            write_bytes(rt, &text[..first])?;
-            write_bytes(rt, &text[first + 1..last])?;
-            write_bytes(rt, &text[last + 1..])
+        Ok(
+            Fields {
+                id,
+                literal,
+                length,
+            },
+        ) => {
+            write_bytes(rt, id)?;
+            write_bytes(rt, literal)?;
+            write_bytes(rt, length)
         }
-        Fields::Blank => write(rt, b"refused 3"),
-        Fields::NoSpace => write(rt, b"refused 4"),
-        Fields::Misplaced => write(rt, b"refused 5"),
+        Err(refusal) => {
+            let number = refusal.number();
+            print!(rt; "refused {number}")
+        }
     }
 }
 
-// The lines of a text.
-fn lines_case(rt: &impl Print, text: &[u8]) -> io::Result<()> {
+// Hands on each line of a text.
+fn each_line<F: FnMut(&[u8]) -> io::Result<()>>(text: &[u8], mut visit: F) -> io::Result<()>
+    requires { F.IsAlwaysCallable visit }
+{
     let mut at = 0;
-    while at < text.len() {
-        let NextLine::Line { end, next } = line::next_line(text, at) else {
-            return Ok(());
-        };
-        write_bytes(rt, &text[at..end])?;
-        at = next;
+    while let Some(line) = line::next_line(text, at) {
+        visit(line.bytes)?;
+        at = line.next;
     }
     Ok(())
 }
 
-fn answer(rt: &impl Print, kind: u8, bytes: &[u8]) -> io::Result<()> {
+fn answer(rt: &(impl AllocGlobal + Print), kind: u8, bytes: &[u8]) -> io::Result<()> {
     match kind {
         b'L' => literal_case(rt, bytes, 1),
         b'M' => literal_case(rt, bytes, 2),
         b'F' => fields_case(rt, bytes),
-        b'T' => lines_case(rt, bytes),
-        b'I' => number_case(rt, bytes, 4294967295, 6),
-        b'N' => number_case(rt, bytes, 18446744073709551615, 11),
+        b'T' => each_line(bytes, |line| write_bytes(rt, line)),
+        b'I' => number_case(rt, bytes, u64::from(u32::MAX), 6),
+        b'N' => number_case(rt, bytes, u64::MAX, 11),
         b'H' => digit_case(rt, bytes),
-        b'U' => write_number(rt, runs::good(bytes) as u64),
+        b'U' => rt.print(runs::good(bytes)),
         b'S' => runs::runs_case(rt, bytes),
         b'B' => texts::text_case(rt, bytes),
-        b'D' | b'X' | b'Y' => decode::decode_case(rt, kind, bytes),
-        _ => write(rt, b"?"),
+        b'D' => decode::decode_case(rt, bytes, decoding::decode_bytes),
+        b'X' => decode::decode_case(rt, bytes, decoding::decode_utf8),
+        b'Y' => decode::decode_case(rt, bytes, lossy::decode_lossy),
+        _ => print!(rt; "?"),
     }
 }
 
-fn one_case(rt: &impl Print, case: &[u8]) -> io::Result<()> {
-    if case.len() < 2 {
+fn one_case(rt: &(impl AllocGlobal + Print), case: &[u8]) -> io::Result<()> {
+    let [kind, _, digits @ ..] = case else {
         return Ok(());
-    }
-    let mut bytes = [0u8; 64];
-    let n = unhex(&case[2..], &mut bytes);
-    write(rt, case)?;
-    write(rt, b": ")?;
-    answer(rt, case[0], &bytes[..n])?;
-    write(rt, b"\n")
-}
-
-fn all_cases(rt: &impl Print, input: &[u8]) -> io::Result<()> {
-    let mut at = 0;
-    while at < input.len() {
-        let NextLine::Line { end, next } = line::next_line(input, at) else {
-            return Ok(());
-        };
-        one_case(rt, &input[at..end])?;
-        at = next;
-    }
-    Ok(())
+    };
+    let mut bytes = vec![in rt.alloc(); 0; digits.len() / 2]?;
+    unhex(digits, &mut bytes);
+    rt.write_all(case)?;
+    print!(rt; ": ")?;
+    answer(rt, *kind, &bytes)?;
+    println!(rt)
 }
 
 fn main(rt: HostRuntime) -> io::Result<()> {
-    let mut input = [0u8; 65536];
-    let n = cases::read_full(&rt, &mut input)?;
-    all_cases(&rt, &input[..n])
+    let mut input = Vec::new(rt.alloc());
+    rt.reader().read_to_end(&mut input)?;
+    each_line(&input, |case| one_case(&rt, case))
 }

@@ -1,59 +1,33 @@
 // UTF-8 at its edges: how many bytes are good, and the same for a beginning and each last byte.
-ghost use Rattle.std.specs.Prelude.{◌≤◌};
-
-use cases::{write_bytes, write_number};
+use cases::write_bytes;
+use std::alloc::{AllocError, Global};
 use std::io;
-use utf8::Text;
 
 // How many bytes there are before the first that is not UTF-8.
 pub fn good(s: &[u8]) -> usize {
-    match utf8::first_bad(s) {
-        Text::WellFormed => s.len(),
-        Text::BadAt(offset) => offset,
-    }
+    utf8::first_bad(s).unwrap_or(s.len())
 }
 
-// The same for at most three bytes and one more.
-fn good_with(start: &[u8], last: u8) -> usize {
-    let n = start.len();
-    if n > 3 {
-        return 0;
+// Each last byte, with how many bytes are good if it follows `start`.
+fn good_with(alloc: Global, start: &[u8]) -> Result<Vec<(u8, usize)>, AllocError> {
+    let mut text = start.to_vec(alloc)?;
+    let mut all = Vec::new(alloc);
+    for last in 0..=255 {
+        text.push(last)?;
+        all.push((last, good(&text)))?;
+        text.pop();
     }
-    let mut s = [0u8; 4];
-    let mut i = 0;
-    while i < n {
-        s[i] = start[i];
-        i += 1;
-    }
-    s[n] = last;
-    good(&s[..n + 1])
+    Ok(all)
 }
 
-// The end of the run of last bytes that give the same as `low`.
-fn run_end(start: &[u8], low: u8) -> u8
-    ensures { low ≤ result }
-{
-    let n = good_with(start, low);
-    let mut last = low;
-    while last < 255 {
-        if good_with(start, last + 1) != n {
-            return last;
+// Each run of last bytes with which as many bytes are good: its ends, and how many are good.
+pub fn runs_case(rt: &(impl AllocGlobal + Print), start: &[u8]) -> io::Result<()> {
+    let all = good_with(rt.alloc(), start)?;
+    for run in all.chunk_by(|a, b| a.1 == b.1) {
+        if let (Some((low, good)), Some((high, _))) = (run.first(), run.last()) {
+            write_bytes(rt, &[*low, *high])?;
+            print!(rt; "{good}")?;
         }
-        last += 1;
     }
-    last
-}
-
-// Each such run with its ends, and how many bytes are good with it.
-pub fn runs_case(rt: &impl Print, start: &[u8]) -> io::Result<()> {
-    let mut low: u8 = 0;
-    loop {
-        let high = run_end(start, low);
-        write_bytes(rt, &[low, high])?;
-        write_number(rt, good_with(start, low) as u64)?;
-        if high == 255 {
-            return Ok(());
-        }
-        low = high + 1;
-    }
+    Ok(())
 }
