@@ -87,11 +87,10 @@ module _ (m : Nodes) (made node : ℕ) (out₀ : List ℕ) where
   unfolding labels_on
   partly-start n e = (omega arith, ap (λ (x : Node). labels_from (see m) made 256 x.head) e, refl)
 
-  pub partly-on : (out out' : List ℕ) (c k k' : ℕ) (n : Node) → k < length out → k < 256 → (c ≡ 0 → ⊥) → c < made → n ≡ see m c
-      → out' ≡ set out k n.label → k' ≡ k + 1 → Partly out c k → Partly out' n.next k'
-  partly-on out out' c k k' n ho hk z h en eo ek p =
-      subst (Partly out' n.next) (sym ek) (subst (λ (l : List ℕ). Partly l n.next (k + 1)) (sym eo)
-      (omega arith, from-turn (see m) made out k c n ho hk z h en ∙ p.1, rest-turn out out₀ k n.label p.2))
+  pub partly-on : (out : List ℕ) (c k : ℕ) (n : Node) → k < length out → k < 256 → (c ≡ 0 → ⊥) → c < made → n ≡ see m c
+      → Partly out c k → Partly (set out k n.label) n.next (k + 1)
+  partly-on out c k n ho hk z h en p =
+      (omega arith, from-turn (see m) made out k c n ho hk z h en ∙ p.1, rest-turn out out₀ k n.label p.2)
 
   pub partly-all : (out : List ℕ) (c k : ℕ) → 256 ≤ length out → labels_from (see m) made (256 - k) c ≡ [] → Partly out c k
       → Gathered (labels_on m made node) out₀ out k

@@ -1,6 +1,6 @@
 -- What fetching and storing a node of a run give. Assumes nothing.
 use Rattle.std.proofs.Common.{◌≡◌, ℕ, ◌<◌, length, get_or, set, refl, length-set, get_or-set_other, get_or-set_same, set-set}
-use lib.Seq.{set-get_or, set_comm}
+use lib.Seq.{set_comm}
 use Rattle.nodes.specs.declared.Node.{Node}
 use Rattle.nodes.specs.Run.{Nodes, room, blank, see, set_node}
 
@@ -15,11 +15,6 @@ set_node-is m i n = refl
 pub length-set_node : (m : Nodes) (i : ℕ) (n : Node) → length (set_node m i n) ≡ length m
 unfolding set_node
 length-set_node m i n = length-set m i n
-
--- a node stored as it is
-pub set-seen : (m : Nodes) (i : ℕ) → set_node m i (see m i) ≡ m
-unfolding see set_node
-set-seen m i = set-get_or m i blank
 
 pub set-over : (m : Nodes) (i : ℕ) (n n' : Node) → set_node (set_node m i n) i n' ≡ set_node m i n'
 unfolding set_node

@@ -163,13 +163,6 @@ duplicate≢made n e = let z : ◌≡◌ {A = ℕ} 0 1 = cc in omega arith
 no_room≢made : (n : ℕ) → ◌≡◌ {A = Result ℕ Refusal} (Err NodesFull) (Ok n) → ⊥
 no_room≢made n e = let z : ◌≡◌ {A = ℕ} 0 1 = cc in omega arith
 
--- what an insertion asks: two bytes or more, and room for the nodes that it may use
-pub two_bytes : {n : ℕ} → 1 ≤ n → (n ≡ 1 → ⊥) → 2 ≤ n
-two_bytes h k = omega (arith, k)
-
-pub within : (n : ℕ) {most : ℕ} → most ≡ min n 4294967295 → most ≤ n
-within n e = omega arith
-
 -- ---- how a token is entered among the others, for each way that `push` can go
 
 module _ {ts : List Token} {s : List ℤ} {os bl rs : List ℕ} {ns : Nodes} {st : Build} (B : Built ts s os bl rs ns st) (t : Token)

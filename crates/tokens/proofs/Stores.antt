@@ -1,19 +1,13 @@
 -- What the stores of one token make, in the terms of the contracts. Assumes nothing.
-use Rattle.std.proofs.Common.{◌≡◌, ℕ, ◌+◌, ◌-◌, ◌≤◌, ◌<◌, ℤ, pos, negsuc, List, ◌++◌, length, get_or, set, take, drop, replicate, refl, sym, ap, ap₂}
+use Rattle.std.proofs.Common.{◌≡◌, ℕ, ◌+◌, ◌-◌, ◌≤◌, ◌<◌, ℤ, pos, List, ◌++◌, length, get_or, set, take, drop, replicate, refl, sym, ap, ap₂}
 use Rattle.std.proofs.Common.{◌∙◌, arith, eq-eqb, ne_eqb, length-drop, length-take-le}
 use Rattle.std.proofs.Math.Seq.{take-length, sets}
 use Rattle.std.proofs.lemmas.List.{length-replicate}
 use Rattle.std.proofs.lemmas.List.Edits.{sets-eq}
 use Rattle.std.proofs.lemmas.Slice.{put_mid-paste}
 use borrow.Rule.Slice.PartMut.{put_mid}
-use lib.Dec.{leb-zero}
-use lib.Signed.{le_z}
 use Rattle.laws.specs.Tests.{yes_case, no_case}
-use Rattle.tokens.specs.Built.{is_taken, set_single, set_offsets}
-
-pub taken-test : (x : ℤ) → le_z (pos 0) x ≡ is_taken x
-taken-test (pos n) = leb-zero n
-taken-test (negsuc n) = refl
+use Rattle.tokens.specs.Built.{set_single, set_offsets}
 
 pub single_one : (s : List ℤ) (id : ℕ) (bs : List ℕ) (i : ℕ) (v : ℤ) → length bs ≡ 1 → i ≡ get_or bs 0 0 → v ≡ pos id
     → set s i v ≡ set_single s id bs
