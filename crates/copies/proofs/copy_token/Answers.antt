@@ -1,4 +1,4 @@
--- `copies::copy_token` meets its contract: eight bytes begin with the token's. Assumes nothing.
+-- `copies::copy_token` meets its contract: sixteen bytes begin with the token's. Assumes nothing.
 use Rattle.std.proofs.Common.{◌≡◌, ℕ, ◌≤◌, List, ◌++◌, length, take, ap, ◌∙◌, arith}
 use Rattle.std.proofs.Math.Seq.{take-take, length-take-le}
 use Rattle.std.proofs.lemmas.List.{take-append-le}
@@ -12,4 +12,4 @@ front-of_chunk s chunk rest len n e h =
 
 pub returns-in-Some-Some : goal.returns-in-Some-Some
 returns-in-Some-Some c =
-    front-of_chunk c.args.from.now c.in-Some-Some.eight.now _ c.args.len 8 c.in-Some-Some.ensures.cases (omega arith)
+    front-of_chunk c.args.from.now c.in-Some-Some.chunk.now _ c.args.len 16 c.in-Some-Some.ensures.cases (omega arith)
