@@ -47,8 +47,10 @@ module _ {s : State} {m : Nodes} where
           → (state m p.node p.made ≡ s) × (p.node ≡ 0 → ⊥)
       go true e q = cc
       go false e q =
-          let is : p ≡ record { node = s.node; made = s.made } = cc in
-          (ap₂ (λ (x : Nodes) (y : Place). state x y.node y.made) h.mem is, λ z. eqb-false s.node 0 e (sym (ap (λ (y : Place). y.node) is) ∙ z))
+          let is : p ≡ record { node = s.node; made = s.made } = cc in (
+            ap₂ (λ (x : Nodes) (y : Place). state x y.node y.made) h.mem is,
+            λ z. eqb-false s.node 0 e (sym (ap (λ (y : Place). y.node) is) ∙ z),
+          )
 
   pub step_err : {e : Refusal} → StepTo s m (Err e) → (s.node ≡ 0) × (e ≡ NodesFull)
   step_err {e = r} h = go (eqb s.node 0) refl h.place

@@ -1,5 +1,6 @@
 -- What the stores of one token make, in the terms of the contracts. Assumes nothing.
-use Rattle.std.proofs.Common.{◌≡◌, ℕ, ◌+◌, ◌-◌, ◌≤◌, ◌<◌, ℤ, pos, List, ◌++◌, length, get_or, set, take, drop, replicate, refl, sym, ap, ap₂}
+use Rattle.std.proofs.Common.{◌≡◌, ℕ, ◌+◌, ◌-◌, ◌≤◌, ◌<◌, ℤ, pos, List, ◌++◌, length, get_or, set, take, drop, replicate, refl}
+use Rattle.std.proofs.Common.{sym, ap, ap₂}
 use Rattle.std.proofs.Common.{◌∙◌, arith, eq-eqb, ne_eqb, length-drop, length-take-le}
 use Rattle.std.proofs.Math.Seq.{take-length, sets}
 use Rattle.std.proofs.lemmas.List.{length-replicate}
