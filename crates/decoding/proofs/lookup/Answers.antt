@@ -23,16 +23,23 @@ returns-in_err-token c =
     rw c.from_residual-in_err-token.ensures
     (if_any-none _ (lookup-outside _ _ (omega arith) (rw (← a, ← e) c.in_err-token.ensures.lookup.0)))
 
-pub returns-in-1-to-255 : goal.returns-in-1-to-255
-returns-in-1-to-255 c =
-    let a = c.in_ok-start.ensures.lookup.3.1 0 in
-    let e = c.in_ok-end.ensures.lookup.3.1 0 in
-    let t = c.in_ok-token.ensures.lookup.0 in
-    token-good _ _ (omega arith) _ _ a e t.0 t.1 _ t.2 (omega arith) (omega arith)
-
-pub returns-in_default : goal.returns-in_default
-returns-in_default c =
+pub returns-then-token-eq0 : goal.returns-then-token-eq0
+returns-then-token-eq0 c =
     let a = c.in_ok-start.ensures.lookup.3.1 0 in
     let e = c.in_ok-end.ensures.lookup.3.1 0 in
     let t = c.in_ok-token.ensures.lookup.0 in
     token-bad _ _ (omega arith) _ _ a e t.0 t.1 _ t.2 (λ some short. omega arith)
+
+pub returns-then-token-gt255 : goal.returns-then-token-gt255
+returns-then-token-gt255 c =
+    let a = c.in_ok-start.ensures.lookup.3.1 0 in
+    let e = c.in_ok-end.ensures.lookup.3.1 0 in
+    let t = c.in_ok-token.ensures.lookup.0 in
+    token-bad _ _ (omega arith) _ _ a e t.0 t.1 _ t.2 (λ some short. omega arith)
+
+pub returns : goal.returns
+returns c =
+    let a = c.in_ok-start.ensures.lookup.3.1 0 in
+    let e = c.in_ok-end.ensures.lookup.3.1 0 in
+    let t = c.in_ok-token.ensures.lookup.0 in
+    token-good _ _ (omega arith) _ _ a e t.0 t.1 _ t.2 (omega arith) (omega arith)
