@@ -115,6 +115,7 @@ fn feed<F: FnMut(&[u8], Outcome, &[u32]) -> io::Result<()>>(
     requires { F.IsAlwaysCallable seen }
 {
     let mut now = start;
+    // Kept: each call writes to what is left of one output, and may be refused for how little that is.
     let mut n = 0;
     for piece in pieces {
         let called = stream::add(memory, now, piece, &mut ids[n..]);
