@@ -24,7 +24,7 @@ use Rattle.answers.specs.declared.Counts.{Counts}
 
 -- ---- parts of memory
 
-same_memory : {s s' : List ℤ} {os os' bl bl' rs rs' tb tb' : List ℕ} → s ≡ s' → os ≡ os' → bl ≡ bl' → rs ≡ rs' → tb ≡ tb'
+pub same_memory : {s s' : List ℤ} {os os' bl bl' rs rs' tb tb' : List ℕ} → s ≡ s' → os ≡ os' → bl ≡ bl' → rs ≡ rs' → tb ≡ tb'
     → memory s os bl rs tb ≡ memory s' os' bl' rs' tb'
 same_memory a b c d e = cc
 

@@ -1,6 +1,5 @@
-// A source of records into the vocabulary memory; a vocabulary text of edition 1 as by the Rust's `from_vocab_str`. The memory is lent:
-// `single`, offsets, blob, roots and table, which a load fills or empties, and three runs of work memory, whose contents before and after
-// are anything: nodes, and the marks of taken slots and of used bases, 64 to a word.
+// A source of records into the vocabulary memory; a vocabulary text of edition 1 as by the Rust's `from_vocab_str`. The memory is lent, and
+// a load fills or empties it; so is work memory, whose contents before and after are anything.
 //
 // A load takes any slices. What is refused before any record is refused before anything is written.
 #![tactic(auto)]
@@ -8,161 +7,123 @@
 pub mod records;
 
 ghost use Rattle.std.specs.Prelude.{◌≡◌, true, false, ◌≤◌, length, take};
-ghost use Rattle.spec.specs.Memory.{memory};
 ghost use Rattle.spec.specs.Load.{table_room, vocabulary, load, start_of, settled, load_on};
 ghost use Rattle.laws.specs.Reads.{LongEnough};
-ghost use Rattle.tokens.specs.Built.{room_for};
+ghost use Rattle.memory.specs.Lent.{cells_in, SameSlices};
+ghost use Rattle.nodes.specs.Work.{SameWork};
+ghost use Rattle.tokens.specs.Built.{KeptIn, room_for};
 ghost use Rattle.source.specs.SourceAnswers.{form_of};
 ghost use Rattle.answers.specs.Answers.{loaded, WorkKept};
+ghost use Rattle.answers.specs.LoadParts.{BuiltAs};
 
-use answers::Load;
-use nodes::Node;
+use answers::Counts;
+use memory::MemoryMut;
+use nodes::Work;
+use refusals::LoadError;
 use source::{How, Plan};
 
-// A load of a source's records into memory that is long enough.
+// The build of a source's records in memory that is long enough. If it is refused, the memory holds what it came to.
+fn build_records(
+    source: &[u8],
+    plan: Plan,
+    memory: &mut MemoryMut,
+    work: &mut Work,
+) -> Result<Counts, LoadError>
+    requires { LongEnough (cells_in memory.old) × (plan.end ≤ length source.now) }
+    ensures built { BuiltAs (form_of plan.form) plan.partial (room_for work.old.nodes.now memory.old.blob.now
+        (table_room (length memory.old.table.now) (length work.old.used.now) (length work.old.used_bases.now)))
+        (take plan.end source.now) result (cells_in memory.old) (cells_in memory.new) }
+    ensures kept { KeptIn memory.old memory.new }
+    ensures same { SameSlices memory.old memory.new }
+    ensures same_work { SameWork work.old work.new }
+{
+    let begun = tokens::begin(memory);
+    let body = &source[..plan.end];
+    let st = records::take_records(body, plan.form, memory, &mut *work.nodes, begun)?;
+    let words = builder::finish(plan.partial, memory, work, st)?;
+    Ok(Counts::of(st, words))
+}
+
+// A load of a source's records into memory that is long enough. "After 3 to 21 the vocabulary memory is emptied".
 fn load_records(
     source: &[u8],
     plan: Plan,
-    single: &mut [i32],
-    offsets: &mut [u32],
-    blob: &mut [u8],
-    roots: &mut [u64],
-    table: &mut [u64],
-    nodes: &mut [Node],
-    used: &mut [u64],
-    used_bases: &mut [u64],
-) -> Load
-    requires { LongEnough (memory single.old offsets.old blob.old roots.old table.old) × (plan.end ≤ length source.now) }
-    ensures { loaded result
-        (memory single.new offsets.new blob.new roots.new table.new)
-        ≡ settled (memory single.old offsets.old blob.old roots.old table.old)
-        (load (form_of plan.form) plan.partial (room_for nodes.old blob.old
-        (table_room (length table.old) (length used.old) (length used_bases.old)))
+    memory: &mut MemoryMut,
+    work: &mut Work,
+) -> Result<Counts, LoadError>
+    requires { LongEnough (cells_in memory.old) × (plan.end ≤ length source.now) }
+    ensures loads { loaded result (cells_in memory.new)
+        ≡ settled (cells_in memory.old) (load (form_of plan.form) plan.partial (room_for work.old.nodes.now memory.old.blob.now
+        (table_room (length memory.old.table.now) (length work.old.used.now) (length work.old.used_bases.now)))
         (take plan.end source.now)) }
+    ensures same { SameSlices memory.old memory.new }
+    ensures same_work { SameWork work.old work.new }
 {
-    let begun = tokens::begin(single, offsets, blob, roots, table);
-    let mut cells = [0u8; 255];
-    let taken = records::take_records(
-        source, plan, single, offsets, blob, roots, nodes, &mut cells, begun,
-    );
-    if taken.number != 0 {
-        return answers::refuse_line(
-            taken.number,
-            taken.lines,
-            single,
-            offsets,
-            blob,
-            roots,
-            table,
-        );
+    match build_records(source, plan, memory, work) {
+        Ok(counts) => Ok(counts),
+        Err(error) => {
+            memory.empty();
+            Err(error)
+        }
     }
-    let st = taken.build;
-    let end = builder::finish(
-        plan.partial,
-        single,
-        offsets,
-        roots,
-        table,
-        nodes,
-        used,
-        used_bases,
-        st,
-    );
-    answers::settle(st, end, single, offsets, blob, roots, table)
 }
 
-// A load of any bytes, as they are asked for. One thing is loose: what the work memory holds afterwards is anything, but what it was if the
-// start halts (and its lengths stay: a slice keeps its length by its type). `load_on` gives all else. For a text this is the Rust's
-// `from_vocab_str_mode`.
+/// A load of any bytes, as they are asked for. One thing is loose: what the work memory holds afterwards is anything, but what it was if
+/// the start halts. `load_on` gives all else. For a text this is the Rust's `from_vocab_str_mode`.
 pub fn from_source(
     source: &[u8],
     how: How,
-    single: &mut [i32],
-    offsets: &mut [u32],
-    blob: &mut [u8],
-    roots: &mut [u64],
-    table: &mut [u64],
-    nodes: &mut [Node],
-    used: &mut [u64],
-    used_bases: &mut [u64],
-) -> Load
-    ensures loads { loaded result
-        (memory single.new offsets.new blob.new roots.new table.new)
-        ≡ load_on (form_of how.form) how.partial (length nodes.old)
-        (table_room (length table.old) (length used.old) (length used_bases.old))
-        (memory single.old offsets.old blob.old roots.old table.old)
-        source.now }
-    ensures work { WorkKept (start_of (form_of how.form) how.partial
-        (memory single.old offsets.old blob.old roots.old table.old)
-        source.now)
-        nodes.old used.old used_bases.old
-        nodes.new used.new used_bases.new }
+    memory: &mut MemoryMut,
+    work: &mut Work,
+) -> Result<Counts, LoadError>
+    ensures loads { loaded result (cells_in memory.new)
+        ≡ load_on (form_of how.form) how.partial (length work.old.nodes.now)
+        (table_room (length memory.old.table.now) (length work.old.used.now) (length work.old.used_bases.now))
+        (cells_in memory.old) source.now }
+    ensures work { WorkKept (start_of (form_of how.form) how.partial (cells_in memory.old) source.now)
+        work.old.nodes.now work.old.used.now work.old.used_bases.now
+        work.new.nodes.now work.new.used.now work.new.used_bases.now }
+    ensures same { SameSlices memory.old memory.new }
+    ensures same_work { SameWork work.old work.new }
 {
-    let start = source::start_of(source, how, single, offsets, roots);
-    if start.number != 0 {
-        return answers::refused(start.number, start.place);
-    }
-    load_records(
-        source, start.plan, single, offsets, blob, roots, table, nodes, used, used_bases,
-    )
+    let plan = source::start_of(source, how, memory.as_memory())?;
+    load_records(source, plan, memory, work)
 }
 
-// A load of a text of edition 1 in full mode: every byte must have a one-byte token.
+/// A load of a text of edition 1 in full mode: every byte must have a one-byte token.
 pub fn from_vocab_str(
     text: &[u8],
-    single: &mut [i32],
-    offsets: &mut [u32],
-    blob: &mut [u8],
-    roots: &mut [u64],
-    table: &mut [u64],
-    nodes: &mut [Node],
-    used: &mut [u64],
-    used_bases: &mut [u64],
-) -> Load
-    ensures loads { loaded result
-        (memory single.new offsets.new blob.new roots.new table.new)
-        ≡ load_on (vocabulary 1) false (length nodes.old)
-        (table_room (length table.old) (length used.old) (length used_bases.old))
-        (memory single.old offsets.old blob.old roots.old table.old)
-        text.now }
-    ensures work { WorkKept (start_of (vocabulary 1) false
-        (memory single.old offsets.old blob.old roots.old table.old)
-        text.now)
-        nodes.old used.old used_bases.old
-        nodes.new used.new used_bases.new }
+    memory: &mut MemoryMut,
+    work: &mut Work,
+) -> Result<Counts, LoadError>
+    ensures loads { loaded result (cells_in memory.new)
+        ≡ load_on (vocabulary 1) false (length work.old.nodes.now)
+        (table_room (length memory.old.table.now) (length work.old.used.now) (length work.old.used_bases.now))
+        (cells_in memory.old) text.now }
+    ensures work { WorkKept (start_of (vocabulary 1) false (cells_in memory.old) text.now)
+        work.old.nodes.now work.old.used.now work.old.used_bases.now
+        work.new.nodes.now work.new.used.now work.new.used_bases.now }
+    ensures same { SameSlices memory.old memory.new }
+    ensures same_work { SameWork work.old work.new }
 {
-    let how = source::text_of(1, false);
-    from_source(
-        text, how, single, offsets, blob, roots, table, nodes, used, used_bases,
-    )
+    from_source(text, source::text_of(1, false), memory, work)
 }
 
-// A load of a text of edition 1 in partial mode, which asks for no byte.
+/// A load of a text of edition 1 in partial mode, which asks for no byte.
 pub fn from_vocab_str_partial(
     text: &[u8],
-    single: &mut [i32],
-    offsets: &mut [u32],
-    blob: &mut [u8],
-    roots: &mut [u64],
-    table: &mut [u64],
-    nodes: &mut [Node],
-    used: &mut [u64],
-    used_bases: &mut [u64],
-) -> Load
-    ensures loads { loaded result
-        (memory single.new offsets.new blob.new roots.new table.new)
-        ≡ load_on (vocabulary 1) true (length nodes.old)
-        (table_room (length table.old) (length used.old) (length used_bases.old))
-        (memory single.old offsets.old blob.old roots.old table.old)
-        text.now }
-    ensures work { WorkKept (start_of (vocabulary 1) true
-        (memory single.old offsets.old blob.old roots.old table.old)
-        text.now)
-        nodes.old used.old used_bases.old
-        nodes.new used.new used_bases.new }
+    memory: &mut MemoryMut,
+    work: &mut Work,
+) -> Result<Counts, LoadError>
+    ensures loads { loaded result (cells_in memory.new)
+        ≡ load_on (vocabulary 1) true (length work.old.nodes.now)
+        (table_room (length memory.old.table.now) (length work.old.used.now) (length work.old.used_bases.now))
+        (cells_in memory.old) text.now }
+    ensures work { WorkKept (start_of (vocabulary 1) true (cells_in memory.old) text.now)
+        work.old.nodes.now work.old.used.now work.old.used_bases.now
+        work.new.nodes.now work.new.used.now work.new.used_bases.now }
+    ensures same { SameSlices memory.old memory.new }
+    ensures same_work { SameWork work.old work.new }
 {
-    let how = source::text_of(1, true);
-    from_source(
-        text, how, single, offsets, blob, roots, table, nodes, used, used_bases,
-    )
+    from_source(text, source::text_of(1, true), memory, work)
 }

@@ -1,46 +1,67 @@
 // The records of a source, taken one by one: each states a token, and the builder takes it.
-ghost use Rattle.std.specs.Prelude.{Bool, [], ℕ, ◌≤◌, length, take};
-ghost use Rattle.spec.specs.Memory.{memory};
+ghost use Rattle.std.specs.Prelude.{Bool, List, [], ℕ, ◌≤◌, length};
+ghost use Rattle.spec.specs.Token.{Token};
 ghost use Rattle.laws.specs.Reads.{LongEnough};
-ghost use Rattle.tokens.specs.Built.{Built, Kept, room_for};
+ghost use Rattle.memory.specs.Lent.{cells_in, SameSlices};
+ghost use Rattle.tokens.specs.Built.{BuiltIn, KeptIn, Small, room_for};
 ghost use Rattle.source.specs.SourceAnswers.{form_of};
-ghost use Rattle.answers.specs.LoadParts.{RecordsAs};
+ghost use Rattle.answers.specs.LoadParts.{TakenAs, RecordsAs};
 
-use answers::taking;
-use answers::taking::Taking;
+use memory::MemoryMut;
 use nodes::Node;
-use source::Plan;
+use refusals::{LoadError, Place, Refusal};
+use source::{Edition, read};
 use tokens::Build;
 
-// The tokens of a source's records, from a build without tokens. The plan says of what form they are and how many bytes hold them; the
-// cells are work memory.
-pub fn take_records(
-    source: &[u8],
-    plan: Plan,
-    single: &mut [i32],
-    offsets: &mut [u32],
-    blob: &mut [u8],
-    roots: &mut [u64],
+// The token of one record more, or 3 to 18. The cells are work memory.
+fn take_record(
+    part: &[u8],
+    form: Option<Edition>,
+    memory: &mut MemoryMut,
     nodes: &mut [Node],
-    cells: &mut [u8],
     build: Build,
-) -> Taking
-    requires { LongEnough (memory single.old offsets.old [] roots.old [])
-        × Built [] single.old offsets.old blob.old roots.old nodes.old build × (255 ≤ length cells.old)
-        × (plan.end ≤ length source.now) }
-    ensures stands { (partial : Bool) (table : ℕ)
-        → RecordsAs (form_of plan.form) partial (room_for nodes.old blob.old table)
-        (take plan.end source.now) result
-        single.new offsets.new blob.new roots.new nodes.new }
-    ensures kept { Kept single.old offsets.old roots.old
-        single.new offsets.new roots.new }
+    cells: &mut [u8],
+) -> Result<Build, Refusal>
+    requires { LongEnough (cells_in memory.old) × Small build × (255 ≤ length cells.old) }
+    ensures stands { (ts : List Token) → BuiltIn ts memory.old nodes.old build
+        → TakenAs (form_of form) (room_for nodes.old memory.old.blob.now) ts part.now result
+        memory.new.single.now memory.new.offsets.now memory.new.blob.now memory.new.roots.now nodes.new }
+    ensures kept { KeptIn memory.old memory.new }
+    ensures same { SameSlices memory.old memory.new }
 {
-    let mut t = taking::read_next(source, plan, taking::begun(build), cells);
-    while t.takes {
-        let pushed = builder::push(
-            single, offsets, blob, roots, nodes, t.build, t.id, cells, t.len,
-        );
-        t = taking::read_next(source, plan, taking::after_push(t, pushed), cells);
+    let found = read::read_record(part, form, build.previous, cells)?;
+    builder::push(memory, nodes, build, found.id, &cells[..found.len])
+}
+
+/// The tokens of a source's records, from a build without tokens; or the refusal of one of them, with its line.
+pub fn take_records(
+    body: &[u8],
+    form: Option<Edition>,
+    memory: &mut MemoryMut,
+    nodes: &mut [Node],
+    build: Build,
+) -> Result<Build, LoadError>
+    requires { LongEnough (cells_in memory.old) × BuiltIn [] memory.old nodes.old build }
+    ensures stands { (partial : Bool) (table : ℕ)
+        → RecordsAs (form_of form) partial (room_for nodes.old memory.old.blob.now table) body.now result
+        memory.new.single.now memory.new.offsets.now memory.new.blob.now memory.new.roots.now nodes.new }
+    ensures kept { KeptIn memory.old memory.new }
+    ensures same { SameSlices memory.old memory.new }
+{
+    let mut cells = [0u8; 255];
+    let mut st = build;
+    let mut at = 0;
+    let mut lines = 0;
+    while let Some(line) = line::next_line(body, at) {
+        lines += 1;
+        at = line.next;
+        match take_record(line.bytes, form, memory, nodes, st, &mut cells) {
+            Ok(more) => st = more,
+            Err(refusal) => {
+                let place = Some(Place::Line(lines));
+                return Err(LoadError { refusal, place });
+            }
+        }
     }
-    t
+    Ok(st)
 }

@@ -1,44 +1,45 @@
--- `from_source` meets its contract: the start halts, or the records are loaded. Assumes nothing.
-use Rattle.std.proofs.Common.{refl, length, take, ap, ◌∙◌}
-use Rattle.spec.specs.Memory.{memory}
-use Rattle.spec.specs.Load.{Room, table_room, goes, load, settled}
+-- The start halts, or the records are loaded.
+use Rattle.std.proofs.Common.{Option, sym, ap, ◌∙◌, length, take}
+use Rattle.std.proofs.lemmas.Result.{err_from_is_err_and}
+use Rattle.spec.specs.Load.{load, settled, start_of, table_room}
+use Rattle.spec.specs.Memory as spec
 use Rattle.laws.specs.Reads.{long_enough}
+use Rattle.loading.specs.Left.{start-goes, by-start}
+use Rattle.memory.specs.Lent.{cells_in}
+use Rattle.tokens.specs.Built.{room_for}
 use Rattle.source.specs.SourceAnswers.{form_of}
-use Rattle.source.specs.declared.Form.{Form}
-use Rattle.answers.proofs.Settling.{loads-halted, starts-long, loads-records}
+use Rattle.source.specs.declared.Edition.{Edition}
 use Rattle.vocabulary.proofs.from_source.Goals as goal
 
-pub returns-then-start-ne0-clause-loads : goal.returns-then-start-ne0-clause-loads
-returns-then-start-ne0-clause-loads c =
+pub returns-in_err-plan-clause-loads : goal.returns-in_err-plan-clause-loads
+returns-in_err-plan-clause-loads c =
     let a = c.args in
-    let start = c.start_of-start.result in
-    let m = memory a.single.now a.offsets.now a.blob.now a.roots.now a.table.now in
-    let table = table_room (length a.table.now) (length a.used.now) (length a.used_bases.now) in
-    (loads-halted (form_of a.how.form) a.how.partial (length a.nodes.now) table m a.source.now start.number start.place
-    (goes start.plan.partial (take start.plan.end a.source.now)) (c.start_of-start.ensures.means a.blob.now a.table.now)
-    c.if-start-ne0.true c.refused.result c.refused.ensures).0
+    let f = form_of a.how.form in
+    let e = err_from_is_err_and c.from_residual.result c.from_residual.ensures.1 in
+    let s = c.in_err-plan.ensures.means ∙ ap (λ (m : spec.Memory). start_of f a.how.partial m a.source.now) c.as_memory.ensures in
+    rw (e.1, e.2) (sym (by-start f (length a.work.now.nodes.now)
+    (table_room (length a.memory.now.table.now) (length a.work.now.used.now) (length a.work.now.used_bases.now)) (cells_in a.memory.now)
+    a.how.partial a.source.now _ (sym s)))
 
 pub load_records-requires : goal.load_records-requires
 load_records-requires c =
     let a = c.args in
-    let start = c.start_of-start.result in
-    let m = memory a.single.now a.offsets.now a.blob.now a.roots.now a.table.now in
-    let table = table_room (length a.table.now) (length a.used.now) (length a.used_bases.now) in (
-      long_enough m (starts-long (form_of a.how.form) a.how.partial (length a.nodes.now) table m a.source.now start.number start.place
-          (goes start.plan.partial (take start.plan.end a.source.now)) (c.start_of-start.ensures.means a.blob.now a.table.now)
-          c.if-start-ne0.false _ _ refl),
-      c.start_of-start.ensures.plan.1,
+    let f = form_of a.how.form in
+    let s = c.in_ok-plan.ensures.means ∙ ap (λ (m : spec.Memory). start_of f a.how.partial m a.source.now) c.as_memory.ensures in (
+      long_enough (cells_in a.memory.now) (start-goes f a.how.partial (cells_in a.memory.now) a.source.now _ _ (sym s)).0,
+      c.in_ok-plan.ensures.plan.1,
     )
 
 pub returns-clause-loads : goal.returns-clause-loads
 returns-clause-loads c =
     let a = c.args in
-    let start = c.start_of-start.result in
-    let m = memory a.single.now a.offsets.now a.blob.now a.roots.now a.table.now in
-    let table = table_room (length a.table.now) (length a.used.now) (length a.used_bases.now) in
-    let room : Room = record { nodes = length a.nodes.now; blob = length a.blob.now; table = table } in
-    let body = take start.plan.end a.source.now in
-    (loads-records (form_of a.how.form) a.how.partial (length a.nodes.now) table m a.source.now start.number start.place
-    (goes start.plan.partial body) (c.start_of-start.ensures.means a.blob.now a.table.now) c.if-start-ne0.false _ _ refl
-    c.load_records.result _ (c.load_records.ensures
-    ∙ ap (λ (x : Form). settled m (load (form_of x) start.plan.partial room body)) c.start_of-start.ensures.plan.0)).0
+    let p = c.in_ok-plan.plan in
+    let f = form_of a.how.form in
+    let m = cells_in a.memory.now in
+    let table = table_room (length a.memory.now.table.now) (length a.work.now.used.now) (length a.work.now.used_bases.now) in
+    let s = c.in_ok-plan.ensures.means ∙ ap (λ (m : spec.Memory). start_of f a.how.partial m a.source.now) c.as_memory.ensures in
+    c.load_records.ensures.loads
+    ∙ ap (λ (x : Option Edition).
+    settled m (load (form_of x) p.partial (room_for a.work.now.nodes.now a.memory.now.blob.now table) (take p.end a.source.now)))
+    c.in_ok-plan.ensures.plan.0
+    ∙ sym (by-start f (length a.work.now.nodes.now) table m a.how.partial a.source.now _ (sym s))

@@ -1,43 +1,22 @@
--- `load_records` meets its contract: the records' build is settled, or the memory is emptied. Assumes nothing.
-use Rattle.std.proofs.Common.{[], length, ◌∙◌}
-use Rattle.spec.specs.Load.{table_room}
-use Rattle.answers.proofs.Settling.{refused-settles, finished-settles, records_made, long_kept}
+-- What was built stands, or the memory is emptied.
+use Rattle.std.proofs.Common.{◌∙◌}
+use Rattle.answers.proofs.Settling.{long_kept, emptied-same, accepted-settles, refused-settles}
+use Rattle.vocabulary.proofs.RecordTurns.{same_trans}
 use Rattle.vocabulary.proofs.load_records.Goals as goal
 
-pub returns-then-taken-ne0 : goal.returns-then-taken-ne0
-returns-then-taken-ne0 c =
-    let a = c.args in
-    let b = c.begin-begun in
-    let t = c.take_records-taken in
-    let r = c.refuse_line in
-    let us = length a.used.now in
-    let vs = length a.used_bases.now in
-    refused-settles us vs a.single.now a.offsets.now a.blob.now a.roots.now a.table.now b.ensures.emptied b.auto.blob b.auto.table
-    t.result (t.ensures.stands a.plan.partial (table_room (length b.new.table) us vs)) t.ensures.kept t.auto.blob
-    c.if-taken-ne0.true _ r.ensures.emptied r.result r.ensures.answer
+pub empty-requires : goal.empty-requires
+empty-requires c =
+    let S = c.build_records.ensures.same in
+    long_kept _ _ _ _ c.requires.0 S.single.1 S.offsets.1 S.roots.1
 
-pub finish-end-requires : goal.finish-end-requires
-finish-end-requires c =
-    let a = c.args in
-    let b = c.begin-begun in
-    let t = c.take_records-taken in
-    let all = t.ensures.stands a.plan.partial (table_room (length b.new.table) (length a.used.now) (length a.used_bases.now)) in
-    let made = records_made (all.all c.if-taken-ne0.false).2 in (
-      long_kept a.blob.now a.table.now [] [] c.requires.0 (t.auto.single ∙ b.auto.single) (t.auto.offsets ∙ b.auto.offsets)
-          (t.auto.roots ∙ b.auto.roots),
-      made.0,
-      made.1,
-    )
+pub returns-in-Ok-clause-loads : goal.returns-in-Ok-clause-loads
+returns-in-Ok-clause-loads c = accepted-settles _ _ _ _ _ c.in-Ok.counts _ c.in-Ok.ensures.built
 
-pub returns : goal.returns
-returns c =
-    let a = c.args in
-    let b = c.begin-begun in
-    let t = c.take_records-taken in
-    let e = c.finish-end in
-    let s = c.settle in
-    let us = length a.used.now in
-    let vs = length a.used_bases.now in
-    finished-settles us vs a.single.now a.offsets.now a.blob.now a.roots.now a.table.now b.ensures.emptied b.auto.blob b.auto.table
-    t.result (t.ensures.stands a.plan.partial (table_room (length b.new.table) us vs)) t.ensures.kept t.auto.blob
-    c.if-taken-ne0.false e.result e.new.table e.ensures.stands e.ensures.kept e.auto.table s.result s.ensures.answer _ s.ensures.left
+pub returns-in-Err-clause-loads : goal.returns-in-Err-clause-loads
+returns-in-Err-clause-loads c =
+    let S = c.build_records.ensures.same in
+    refused-settles _ _ _ _ _ c.in-Err.error _ c.in-Err.ensures.built
+    (c.empty.ensures.emptied ∙ emptied-same c.build_records.ensures.kept _ _ _ _ S.blob.1 S.table.1)
+
+pub returns-in-Err-clause-same : goal.returns-in-Err-clause-same
+returns-in-Err-clause-same c = same_trans _ _ _ c.build_records.ensures.same c.empty.ensures.same

@@ -1,44 +1,57 @@
--- `take_records` meets its contract: one turn after another keeps what a taking stands for. Assumes nothing.
-use Rattle.std.proofs.Common.{Bool, T, not, ◌≤◌, length, sym, subst, arith}
-use Rattle.answers.proofs.TakingRecords.{going_starts, going-asks, going-reads, going_on, nearer, going_done}
+-- One turn after another keeps what is left of the source.
+use Rattle.std.proofs.Common.{arith}
+use Rattle.answers.proofs.Settling.{kept_trans, long_kept}
+use Rattle.vocabulary.proofs.RecordTurns.{small_of, a-record, no_record, record_within, same_trans, going_starts, going_done, going_refused, going_on}
 use Rattle.vocabulary.proofs.records.take_records.Goals as goal
 
-pub loop-t-init : goal.loop-t-init
-loop-t-init c =
-    going_starts _ _ _ _ _ _ _ _ c.args.build c.begun.result c.read_next-t.result c.requires.1 c.begun.ensures c.read_next-t.ensures
+pub loop-line-init : goal.loop-line-init
+loop-line-init c = (going_starts c.args.form c.args.body.now c.args.memory.now c.args.nodes.now c.args.build c.requires.1, omega arith)
 
-pub push-pushed-requires : goal.push-pushed-requires
-push-pushed-requires c =
-    let l = c.loop-t in
-    let on = subst (λ (x : Bool). T x) (sym c.loop-t-test.true) tt in
-    let room : 255 ≤ length l.cells = omega (arith, c.requires.2) in
-    going-asks l.invariant on c.requires.0 l.auto.single l.auto.offsets l.auto.roots room
+pub take_record-requires : goal.take_record-requires
+take_record-requires c =
+    let G = c.loop-line.invariant.0 in
+    let S = G.same in
+    (long_kept _ _ _ _ c.requires.0 S.single.1 S.offsets.1 S.roots.1, small_of G.built, c.loop-line.invariant.1)
 
-pub read_next-t-requires-in-loop-t : goal.read_next-t-requires-in-loop-t
-read_next-t-requires-in-loop-t c =
-    let l = c.loop-t in
-    let on = subst (λ (x : Bool). T x) (sym c.loop-t-test.true) tt in
-    let room : 255 ≤ length l.cells = omega (arith, c.requires.2) in
-    let g = going-reads l.invariant on c.push-pushed.result c.after_push.result c.after_push.ensures room in
-    (c.requires.3, g.0, g.1, g.2, g.3)
+pub loop-line-smaller : goal.loop-line-smaller
+loop-line-smaller c =
+    let l = c.loop-line in
+    let w = record_within c.args.form c.args.body.now l.at c.in-Some.line
+    (a-record c.args.form c.args.body.now l.at c.next_line.result c.in-Some.line c.in-Some.is c.next_line.ensures) in
+    let a = w.0 in
+    let b = w.1 in
+    omega arith
 
-pub loop-t-smaller : goal.loop-t-smaller
-loop-t-smaller c =
-    let on = subst (λ (x : Bool). T x) (sym c.loop-t-test.true) tt in
-    nearer c.loop-t.invariant on c.push-pushed.result c.after_push.result c.after_push.ensures c.read_next-t-in-loop-t.ensures
+pub loop-line-preserved : goal.loop-line-preserved
+loop-line-preserved c =
+    let l = c.loop-line in
+    let t = c.take_record in
+    let L = a-record c.args.form c.args.body.now l.at c.next_line.result c.in-Some.line c.in-Some.is c.next_line.ensures in (
+      going_on l.invariant.0 c.in-Some.line L t.new.memory t.new.nodes c.in-Ok.more c.in-Ok.ensures.stands t.ensures.kept t.ensures.same
+          t.auto.nodes,
+      (let k = t.auto.cells in let h = l.invariant.1 in omega arith),
+    )
 
-pub loop-t-preserved : goal.loop-t-preserved
-loop-t-preserved c =
-    let l = c.loop-t in
-    let p = c.push-pushed in
-    let on = subst (λ (x : Bool). T x) (sym c.loop-t-test.true) tt in
-    going_on l.invariant on p.new.blob p.new.nodes l.auto.nodes l.auto.blob p.ensures.kept p.result p.ensures.stands
-    c.after_push.result c.after_push.ensures c.read_next-t-in-loop-t.ensures
+pub returns-in-Err-clause-stands : goal.returns-in-Err-clause-stands
+returns-in-Err-clause-stands c =
+    let l = c.loop-line in
+    let t = c.take_record in
+    let L = a-record c.args.form c.args.body.now l.at c.next_line.result c.in-Some.line c.in-Some.is c.next_line.ensures in
+    going_refused l.invariant.0 c.in-Some.line L t.new.memory t.new.nodes c.in-Err.refusal c.in-Err.ensures.stands
+
+pub returns-in-Err-clause-kept : goal.returns-in-Err-clause-kept
+returns-in-Err-clause-kept c = kept_trans c.loop-line.invariant.0.kept c.take_record.ensures.kept
+
+pub returns-in-Err-clause-same : goal.returns-in-Err-clause-same
+returns-in-Err-clause-same c = same_trans _ _ _ c.loop-line.invariant.0.same c.take_record.ensures.same
 
 pub returns-clause-stands : goal.returns-clause-stands
 returns-clause-stands c =
-    let off = subst (λ (x : Bool). T (not x)) (sym c.loop-t-test.false) tt in
-    going_done c.loop-t.invariant off
+    let l = c.loop-line in
+    going_done l.invariant.0 (no_record c.args.form c.args.body.now l.at c.next_line.result c.in_default.is c.next_line.ensures)
 
 pub returns-clause-kept : goal.returns-clause-kept
-returns-clause-kept c = c.loop-t.invariant.kept
+returns-clause-kept c = c.loop-line.invariant.0.kept
+
+pub returns-clause-same : goal.returns-clause-same
+returns-clause-same c = c.loop-line.invariant.0.same

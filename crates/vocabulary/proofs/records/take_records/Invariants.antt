@@ -1,14 +1,12 @@
--- What the loop of `take_records` keeps, and how far it is from the end of the records. Assumes nothing.
-use Rattle.std.proofs.Common.{take}
-use Rattle.source.specs.SourceAnswers.{form_of}
-use Rattle.answers.proofs.TakingRecords.{Going, unread_bytes}
+-- What the loop keeps, and how far it is from the end of the records.
+use Rattle.std.proofs.Common.{◌-◌, ◌≤◌, length}
+use Rattle.vocabulary.proofs.RecordTurns.{Going}
 use Rattle.vocabulary.proofs.records.take_records.Given as goal
 
 -- the memory holds the tokens of the records before
-abbrev pub invariant-loop-t : goal.invariant-loop-t
-invariant-loop-t l =
-    Going (form_of l.plan.form) (take l.plan.end l.source) l.fn.single l.fn.offsets l.fn.blob l.fn.roots l.fn.nodes
-    l.single l.offsets l.blob l.roots l.nodes l.cells l.t
+abbrev pub invariant-loop-line : goal.invariant-loop-line
+invariant-loop-line l =
+    Going l.form l.body l.fn.memory l.fn.nodes l.memory l.nodes l.at l.lines l.st × (255 ≤ length l.cells)
 
-abbrev pub decreases-loop-t : goal.decreases-loop-t
-decreases-loop-t l = unread_bytes (take l.plan.end l.source) l.t
+abbrev pub decreases-loop-line : goal.decreases-loop-line
+decreases-loop-line l = length l.body - l.at
