@@ -1,24 +1,17 @@
 // Whole encoding.
 ghost use Rattle.std.specs.Prelude.{length};
-ghost use Rattle.spec.specs.Memory.{memory};
+ghost use Rattle.memory.specs.Lent.{cells_of};
 ghost use Rattle.spec.specs.Encode.{encode_on};
 ghost use Rattle.reports.specs.Report.{Reported};
 
+use memory::Memory;
+use reports::report::Answer;
+
 // The ids of src, written from out's start. The report: count, offset, byte.
-pub fn rwkv_encode(
-    single: &[i32],
-    offsets: &[u32],
-    blob: &[u8],
-    roots: &[u64],
-    table: &[u64],
-    src: &[u8],
-    out: &mut [u32],
-    report: &mut [u64; 3],
-) -> u32
+pub fn rwkv_encode(memory: Memory, src: &[u8], out: &mut [u32], report: &mut [u64; 3]) -> u32
     ensures { Reported (encode_on
-        (memory single.now offsets.now blob.now roots.now table.now)
+        (cells_of memory.entry)
         (length out.old) src.now) result report.new out.old out.new }
 {
-    let encoded = encoding::encode_sequential_bytes(single, offsets, blob, roots, table, src, out);
-    reports::encode::reported(encoded, report)
+    Answer::from(encoding::encode_sequential_bytes(memory, src, out)).report_to(report)
 }

@@ -1,53 +1,39 @@
 // The running encoder: the caller holds the stream and lends it to each call, which changes it in place.
 ghost use Rattle.std.specs.Prelude.{◌≡◌};
-ghost use Rattle.spec.specs.Memory.{memory};
+ghost use Rattle.memory.specs.Lent.{cells_of};
 ghost use Rattle.spec.specs.Stream as spec;
 ghost use Rattle.stream_record.specs.Answers.{record_of};
 ghost use Rattle.reports.specs.Leaves.{Leaves};
 
+use memory::Memory;
 use stream_record::Stream;
 
 // The next piece: the ids that it decides, written from out's start. The report: count, offset, byte.
 pub fn rwkv_add(
-    single: &[i32],
-    offsets: &[u32],
-    blob: &[u8],
-    roots: &[u64],
-    table: &[u64],
+    memory: Memory,
     stream: &mut Stream,
     piece: &[u8],
     out: &mut [u32],
     report: &mut [u64; 3],
 ) -> u32
     ensures { Leaves (spec.call_on
-        (memory single.now offsets.now blob.now roots.now table.now)
+        (cells_of memory.entry)
         (record_of stream.old) (spec.add piece.now out.old))
         result report.new stream.new out.old out.new }
 {
-    let added = reports::lent::add(
-        single, offsets, blob, roots, table, *stream, piece, out, report,
-    );
+    let added = reports::lent::add(memory, *stream, piece, out, report);
     *stream = added.stream;
     added.number
 }
 
 // The end of the stream: the ids of the held bytes.
-pub fn rwkv_end(
-    single: &[i32],
-    offsets: &[u32],
-    blob: &[u8],
-    roots: &[u64],
-    table: &[u64],
-    stream: &mut Stream,
-    out: &mut [u32],
-    report: &mut [u64; 3],
-) -> u32
+pub fn rwkv_end(memory: Memory, stream: &mut Stream, out: &mut [u32], report: &mut [u64; 3]) -> u32
     ensures { Leaves (spec.call_on
-        (memory single.now offsets.now blob.now roots.now table.now)
+        (cells_of memory.entry)
         (record_of stream.old) (spec.end out.old))
         result report.new stream.new out.old out.new }
 {
-    let ended = reports::lent::end(single, offsets, blob, roots, table, *stream, out, report);
+    let ended = reports::lent::end(memory, *stream, out, report);
     *stream = ended.stream;
     ended.number
 }

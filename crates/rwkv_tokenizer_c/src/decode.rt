@@ -4,6 +4,8 @@ ghost use Rattle.spec.specs.Memory.{memory};
 ghost use Rattle.spec.specs.Decode.{decode_on, decode_text_on, decode_lossy_on};
 ghost use Rattle.reports.specs.Report.{Reported};
 
+use memory::Memory;
+
 // The bytes of the ids, written from out's start.
 #[unsafe(no_mangle)]
 pub extern "C" fn rwkv_decode(
@@ -20,7 +22,14 @@ pub extern "C" fn rwkv_decode(
         (memory single.now offsets.now blob.now roots.now table.now)
         (length out.old) ids.now) result report.new out.old out.new }
 {
-    rwkv_tokenizer::rwkv_decode(single, offsets, blob, roots, table, ids, out, report)
+    let memory = Memory {
+        single,
+        offsets,
+        blob,
+        roots,
+        table,
+    };
+    rwkv_tokenizer::rwkv_decode(memory, ids, out, report)
 }
 
 // The same, and that the bytes are UTF-8.
@@ -39,7 +48,14 @@ pub extern "C" fn rwkv_decode_utf8(
         (memory single.now offsets.now blob.now roots.now table.now)
         (length out.old) ids.now) result report.new out.old out.new }
 {
-    rwkv_tokenizer::rwkv_decode_utf8(single, offsets, blob, roots, table, ids, out, report)
+    let memory = Memory {
+        single,
+        offsets,
+        blob,
+        roots,
+        table,
+    };
+    rwkv_tokenizer::rwkv_decode_utf8(memory, ids, out, report)
 }
 
 // Lossy text.
@@ -58,5 +74,12 @@ pub extern "C" fn rwkv_decode_lossy(
         (memory single.now offsets.now blob.now roots.now table.now)
         (length out.old) ids.now) result report.new out.old out.new }
 {
-    rwkv_tokenizer::rwkv_decode_lossy(single, offsets, blob, roots, table, ids, out, report)
+    let memory = Memory {
+        single,
+        offsets,
+        blob,
+        roots,
+        table,
+    };
+    rwkv_tokenizer::rwkv_decode_lossy(memory, ids, out, report)
 }

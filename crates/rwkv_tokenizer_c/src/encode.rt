@@ -4,6 +4,8 @@ ghost use Rattle.spec.specs.Memory.{memory};
 ghost use Rattle.spec.specs.Encode.{encode_on};
 ghost use Rattle.reports.specs.Report.{Reported};
 
+use memory::Memory;
+
 // The ids of src, written from out's start. The report: count, offset, byte.
 #[unsafe(no_mangle)]
 pub extern "C" fn rwkv_encode(
@@ -20,5 +22,12 @@ pub extern "C" fn rwkv_encode(
         (memory single.now offsets.now blob.now roots.now table.now)
         (length out.old) src.now) result report.new out.old out.new }
 {
-    rwkv_tokenizer::rwkv_encode(single, offsets, blob, roots, table, src, out, report)
+    let memory = Memory {
+        single,
+        offsets,
+        blob,
+        roots,
+        table,
+    };
+    rwkv_tokenizer::rwkv_encode(memory, src, out, report)
 }

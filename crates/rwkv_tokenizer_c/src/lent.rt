@@ -5,6 +5,7 @@ ghost use Rattle.spec.specs.Stream as spec;
 ghost use Rattle.stream_record.specs.Answers.{record_of};
 ghost use Rattle.reports.specs.Leaves.{Leaves};
 
+use memory::Memory;
 use stream_record::Stream;
 
 // The next piece: the ids that it decides, written from out's start. The report: count, offset, byte.
@@ -25,9 +26,14 @@ pub extern "C" fn rwkv_add(
         (record_of stream.old) (spec.add piece.now out.old))
         result report.new stream.new out.old out.new }
 {
-    rwkv_tokenizer::rwkv_add(
-        single, offsets, blob, roots, table, stream, piece, out, report,
-    )
+    let memory = Memory {
+        single,
+        offsets,
+        blob,
+        roots,
+        table,
+    };
+    rwkv_tokenizer::rwkv_add(memory, stream, piece, out, report)
 }
 
 // The end of the stream: the ids of the held bytes.
@@ -47,7 +53,14 @@ pub extern "C" fn rwkv_end(
         (record_of stream.old) (spec.end out.old))
         result report.new stream.new out.old out.new }
 {
-    rwkv_tokenizer::rwkv_end(single, offsets, blob, roots, table, stream, out, report)
+    let memory = Memory {
+        single,
+        offsets,
+        blob,
+        roots,
+        table,
+    };
+    rwkv_tokenizer::rwkv_end(memory, stream, out, report)
 }
 
 // A new stream.

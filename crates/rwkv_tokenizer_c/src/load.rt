@@ -5,7 +5,8 @@ ghost use Rattle.spec.specs.Load.{table_room, vocabulary, start_of, load_on};
 ghost use Rattle.answers.specs.Answers.{WorkKept};
 ghost use Rattle.reports.specs.Report.{LoadReported};
 
-use nodes::Node;
+use memory::MemoryMut;
+use nodes::{Node, Work};
 
 // A vocabulary text of edition 1 or 2 into the memory, in partial or full mode; any other edition is refused with 34. The report: the kind
 // of the refusal's place (0 none, 1 line, 2 offset, 3 byte) and the place, or the counts of tokens, nodes, blob bytes and table words. The
@@ -37,8 +38,17 @@ pub extern "C" fn rwkv_load(
         nodes.old used.old used_bases.old
         nodes.new used.new used_bases.new }
 {
-    rwkv_tokenizer::rwkv_load(
-        text, edition, partial, single, offsets, blob, roots, table, nodes, used, used_bases,
-        report,
-    )
+    let mut memory = MemoryMut {
+        single,
+        offsets,
+        blob,
+        roots,
+        table,
+    };
+    let mut work = Work {
+        nodes,
+        used,
+        used_bases,
+    };
+    rwkv_tokenizer::rwkv_load(text, edition, partial, &mut memory, &mut work, report)
 }
