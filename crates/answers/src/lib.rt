@@ -23,7 +23,8 @@ impl Counts {
     /// The counts of a build whose table has so many words.
     #[tactic(auto, unfolding(spec::specs::Load::counts_of))]
     pub fn of(st: Build, words: u32) -> Counts
-        ensures { (ts : List Token) → built.Counts ts st → words ≡ table_words ts → count_of result ≡ counts_of ts }
+        ensures means { (ts : List Token) → built.Counts ts st → words ≡ table_words ts → count_of result ≡ counts_of ts }
+        ensures same { result ≡ record { tokens = st.tokens; nodes = st.made; blob = st.used; table = words } }
     {
         Counts {
             tokens: st.tokens,

@@ -1,9 +1,27 @@
 // For programs that run cases of standard input: bytes in hexadecimal and the ids that they spell, and how answers are written.
 #![tactic(auto)]
 
-ghost use Rattle.std.specs.Prelude.{◌≤◌, length};
+ghost use Rattle.std.specs.Prelude.{◌≤◌, length, IfOk};
 
 use std::io;
+use std::io::Read;
+
+// Standard input up to its end, or what of it fills the bytes; how many there were.
+pub fn read_full<R: Input>(rt: &R, input: &mut [u8]) -> io::Result<usize>
+    ensures { IfOk result (λ n. n ≤ length input.new) }
+{
+    let mut reader = rt.reader();
+    // Kept: one read gives any number of bytes, so no range gives the places.
+    let mut at = 0;
+    while at < input.len() {
+        let n = reader.read(&mut input[at..])?;
+        if n == 0 {
+            return Ok(at);
+        }
+        at += n;
+    }
+    Ok(at)
+}
 
 pub fn write(rt: &impl Print, text: &[u8]) -> io::Result<()> {
     rt.write_all(text)

@@ -68,7 +68,8 @@ module _ (m : Memory) (i : ℕ) where
         lookup-token h = simp (lt-ltb _ _ near, le-leb _ _ order, le-leb _ _ inside, le-leb _ _ h)
 
     -- past the blob, or out of order
-    pub lookup-outside : (get_or m.offsets (i + 1) 0 < get_or m.offsets i 0) ⊎ (length m.blob < get_or m.offsets (i + 1) 0) → lookup m i ≡ []
+    pub lookup-outside : (get_or m.offsets (i + 1) 0 < get_or m.offsets i 0) ⊎ (length m.blob < get_or m.offsets (i + 1) 0)
+        → lookup m i ≡ []
     lookup-outside (inl h) = lookup-ordered h
     lookup-outside (inr h) = go (leb (get_or m.offsets i 0) (get_or m.offsets (i + 1) 0)) refl
       where
@@ -125,7 +126,8 @@ present m i some =
     let inside : get_or m.offsets (i + 1) 0 ≤ length m.blob =
     let past : length m.blob < get_or m.offsets (i + 1) 0 → ⊥ = λ h. none (lookup-past m i near ordered h) in omega arith in
     let short : get_or m.offsets (i + 1) 0 - get_or m.offsets i 0 ≤ 255 =
-    let long : 255 < get_or m.offsets (i + 1) 0 - get_or m.offsets i 0 → ⊥ = λ h. none (lookup-long m i near ordered inside h) in omega arith in
+    let long : 255 < get_or m.offsets (i + 1) 0 - get_or m.offsets i 0 → ⊥ =
+    λ h. none (lookup-long m i near ordered inside h) in omega arith in
     let bytes = lookup-token m i near ordered inside short in
     record {
       paired = paired;

@@ -51,7 +51,9 @@ fn measure(memory: Memory<'_>, ids: &[u32], room: usize) -> Result<usize, Decode
 {
     let mut len = 0;
     for (index, &id) in ids.iter().enumerate() {
-        let token = lookup(memory, id).ok_or(DecodeError::Absent { len, index, id })?;
+        let Some(token) = lookup(memory, id) else {
+            return Err(DecodeError::Absent { len, index, id });
+        };
         if token.len() > room - len {
             return Err(DecodeError::Full { len, index });
         }

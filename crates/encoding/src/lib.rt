@@ -36,7 +36,7 @@ pub fn encode_sequential_bytes(
     }
     let mut offset = 0;
     let mut count = 0;
-    // Kept: no plainer as a `for`, since each step is as long as its token.
+    // Kept: each step is as long as its token, and an answer says its place; no plainer over the rest as a slice.
     while offset < src.len() {
         let byte = src[offset];
         let Some(found) = matching::match_at(memory, src, offset) else {

@@ -105,6 +105,7 @@ fn escape_2(rest: &[u8], in_bytes: bool) -> Option<Piece>
 }
 
 // The escape of an edition: "files of edition 1 read as ever".
+// Kept: any number may be given for the edition, and a type of two editions would ask more of callers.
 #[tactic(auto, unfolding(spec::specs::Literal::escapes_of))]
 fn escape_of(rest: &[u8], in_bytes: bool, edition: u32) -> Option<Piece>
     ensures { option_map piece_of result ≡ escapes_of edition in_bytes rest.now }

@@ -36,7 +36,7 @@ pub fn decode_case<F: FnOnce(Memory<'_>, &[u32], &mut [u8]) -> Result<usize, Dec
         1 => Cells::v(alloc, 65536)?,
         _ => Cells::bytes(alloc)?,
     };
-    let mut ids = vec![in alloc; 0; spelled.len() / 3]?;
+    let mut ids = vec![in alloc; 0; (spelled.len() / 3).min(16)]?;
     read_ids(spelled, &mut ids);
     let mut out = vec![in alloc; b'.'; usize::from(*room)]?;
     let decoded = decode(cells.memory(), &ids, &mut out);

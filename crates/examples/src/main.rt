@@ -79,6 +79,8 @@ fn each_line<F: FnMut(&[u8]) -> io::Result<()>>(text: &[u8], mut visit: F) -> io
     Ok(())
 }
 
+// The answer of a case of any kind.
+// Kept: the letter of a case becomes a call here and nowhere else.
 fn answer(rt: &(impl AllocGlobal + Print), kind: u8, bytes: &[u8]) -> io::Result<()> {
     match kind {
         b'L' => literal_case(rt, bytes, 1),
@@ -102,7 +104,7 @@ fn one_case(rt: &(impl AllocGlobal + Print), case: &[u8]) -> io::Result<()> {
     let [kind, _, digits @ ..] = case else {
         return Ok(());
     };
-    let mut bytes = vec![in rt.alloc(); 0; digits.len() / 2]?;
+    let mut bytes = vec![in rt.alloc(); 0; (digits.len() / 2).min(64)]?;
     unhex(digits, &mut bytes);
     rt.write_all(case)?;
     print!(rt; ": ")?;
@@ -113,5 +115,6 @@ fn one_case(rt: &(impl AllocGlobal + Print), case: &[u8]) -> io::Result<()> {
 fn main(rt: HostRuntime) -> io::Result<()> {
     let mut input = Vec::new(rt.alloc());
     rt.reader().read_to_end(&mut input)?;
+    input.truncate(65536);
     each_line(&input, |case| one_case(&rt, case))
 }

@@ -8,13 +8,14 @@ pub fn good(s: &[u8]) -> usize {
     utf8::first_bad(s).unwrap_or(s.len())
 }
 
-// Each last byte, with how many bytes are good if it follows `start`.
+// Each last byte, with how many bytes are good if it follows `start`; none behind more than three.
 fn good_with(alloc: Global, start: &[u8]) -> Result<Vec<(u8, usize)>, AllocError> {
     let mut text = start.to_vec(alloc)?;
     let mut all = Vec::new(alloc);
     for last in 0..=255 {
         text.push(last)?;
-        all.push((last, good(&text)))?;
+        let good = if start.len() > 3 { 0 } else { good(&text) };
+        all.push((last, good))?;
         text.pop();
     }
     Ok(all)

@@ -86,6 +86,7 @@ fn quoted(text: &[u8], in_bytes: bool, edition: u32, res: &mut [u8]) -> Option<u
 
 // The bytes that a Python literal stands for in an edition, written to `res` as far as they fit; how many there are, or that the
 // literal is bad. Of a bad literal the bytes before its first fault are written.
+// Kept: no heap, and the length may pass what `res` holds, so that no part of it can stand for it.
 pub fn parse_python_literal_into(text: &[u8], edition: u32, res: &mut [u8]) -> Option<usize>
     ensures answer { result ≡ option_map length (literal edition text.now) }
     ensures cells { res.new ≡ stored (read edition text.now).bytes res.old }

@@ -1,6 +1,7 @@
 -- The walk of `spec`, one byte at a time: where it ends and where it goes on, from a root and from a place; and the match that it gives.
 -- Assumes nothing.
-use Rattle.std.proofs.Common.{◌≡◌, ℕ, ◌+◌, ◌-◌, ◌*◌, min, ◌≤◌, ◌<◌, suc, pos, Bool, true, false, cond, not, ◌&&◌, eqb, List, [], ◌∷◌, length}
+use Rattle.std.proofs.Common.{◌≡◌, ℕ, ◌+◌, ◌-◌, ◌*◌, min, ◌≤◌, ◌<◌, suc, pos, Bool, true, false, cond, not, ◌&&◌, eqb}
+use Rattle.std.proofs.Common.{List, [], ◌∷◌, length}
 use Rattle.std.proofs.Common.{take, drop, get_or, Option, Some, None, refl, sym, ap, ap₂, ◌∙◌, arith, add-one, drop-cons}
 use Rattle.std.specs.Int.Bits.{bit_xor}
 use borrow.Author.Tests.{eq-eqb, ne_eqb}

@@ -158,6 +158,7 @@ fn one_byte(single: &[i32], byte: u8) -> Option<Match>
 }
 
 /// The longest token at the place `i` of the input.
+// Kept: each function here asks for the parts that it reads; a memory known to be long enough would ask more of callers.
 pub fn match_at(memory: Memory, src: &[u8], i: usize) -> Option<Match>
     requires { (i < length src.now) × (256 ≤ length memory.single.now) × (65536 ≤ length memory.roots.now) }
     ensures { match_of result ≡ match_on (cells_of memory.entry) (drop i src.now) }

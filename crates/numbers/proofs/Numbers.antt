@@ -109,7 +109,8 @@ hex-short v (suc n) (b ∷ s) h = go (hex_digit b) (λ (d : ℕ). hex-short (v *
 
 -- a run needs its digits
 pub hex-long : (n v : ℕ) (s : List ℕ) → hex_run n s ≡ Some v → n ≤ length s
-hex-long n v s e = ⊎_elim (λ (h : length s < n). absurd (none-ne-some v (sym (hex-short 0 n s h) ∙ e))) (λ (h : n ≤ length s). h) (cases_lt (length s) n)
+hex-long n v s e =
+    ⊎_elim (λ (h : length s < n). absurd (none-ne-some v (sym (hex-short 0 n s h) ∙ e))) (λ (h : n ≤ length s). h) (cases_lt (length s) n)
 
 -- what a reader with the value v finds in the rest s, all of it
 unfoldable pub all_hex : ℕ → List ℕ → Option ℕ

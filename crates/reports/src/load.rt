@@ -8,6 +8,7 @@ use answers::Counts;
 use refusals::{LoadError, Place};
 
 // The kind of a refusal's place (0 no place, 1 a line, 2 an offset, 3 a byte), and the place.
+// Kept: the C interface, whose report gives the kind as a number.
 fn place_cells(place: Option<Place>) -> [u64; 2]
     ensures { result ≡ place_kind (place_of place) ∷ place_value (place_of place) ∷ [] }
 {

@@ -51,7 +51,7 @@ pub fn run(
 {
     let mut at = from;
     let mut count = start;
-    // Kept: no plainer as a `for`, since each step is as long as its token.
+    // Kept: each step is as long as its token, and an answer says its place; no plainer over the rest as a slice.
     while at < stop {
         if undecided_at(memory, src, at) {
             return Ran::Waiting { at, count };

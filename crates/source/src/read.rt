@@ -78,6 +78,7 @@ fn read_line(line: &[u8], edition: u32, previous: u16, cells: &mut [u8]) -> Resu
 }
 
 /// What a part of a source of this form states, one record, after a token of id `previous`.
+// Kept: any cells may be lent that are long enough; an array of 255 would ask more of callers.
 #[tactic(auto, unfolding(spec::specs::Load::reading))]
 pub fn read_record(
     part: &[u8],

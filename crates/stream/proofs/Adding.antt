@@ -105,7 +105,8 @@ module _ (m : Memory) (piece : List ℕ) (from count total all at n : ℕ) (befo
       (w.comes.2 piece total (alike_self m piece)) g
 
   pub rest-stuck : RunsTo m piece from (length piece) count lent out (Stuck at n)
-      → (r.answer ≡ Err (Stopped n (total + at) (get_or piece at 0))) × (record_of r.stream ≡ stopped_at all (total + at) (get_or piece at 0))
+      → (r.answer ≡ Err (Stopped n (total + at) (get_or piece at 0)))
+      × (record_of r.stream ≡ stopped_at all (total + at) (get_or piece at 0))
       → Hands all before (run_from m total piece from) lent out r
   rest-stuck w g =
       hands-stopped all before (run_from m total piece from) lent out r w.ids n (total + at) (counts w) (writes w) (get_or piece at 0)

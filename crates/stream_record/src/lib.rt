@@ -16,7 +16,8 @@ pub const STOPPED: u8 = 1;
 pub const ENDED: u8 = 2;
 
 /// A stream between two calls: the bytes taken in all, those from the first undecided position on, and where it stopped.
-// Kept: the C interface; a C program lays the record out, so that the held bytes are an array beside their number.
+// Kept: the C interface; a C program lays the record out, so that the held bytes are an array beside their number, and where it
+// stopped stands beside the phase.
 #[repr(C)]
 #[derive(Clone, Copy)]
 pub struct Stream {

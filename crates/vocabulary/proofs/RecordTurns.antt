@@ -1,5 +1,6 @@
 -- One turn of the taking of records after another: what is left of the source, from the tokens so far, is what the whole of it gives.
-use Rattle.std.specs.Prelude.{◌≡◌, refl, Bool, List, [], ◌∷◌, ◌++◌, ℕ, suc, ◌+◌, ◌≤◌, ◌<◌, ℤ, length, take, drop, get_or, Option, None, Some, option_map}
+use Rattle.std.specs.Prelude.{◌≡◌, refl, Bool, List, [], ◌∷◌, ◌++◌, ℕ, suc, ◌+◌, ◌≤◌, ◌<◌, ℤ, length, take, drop, get_or}
+use Rattle.std.specs.Prelude.{Option, None, Some, option_map}
 use Rattle.std.specs.Prelude.{Result, Ok, Err}
 use Rattle.std.proofs.Common.{sym, ap, ap₂, ◌∙◌, subst, arith, length-drop}
 use Rattle.std.proofs.Math.Seq.{drop-drop}
@@ -177,6 +178,7 @@ pub record Going (form : Option Edition) (body : List ℕ) (m₀ : MemoryMut) (n
   pub left : (partial : Bool) (table : ℕ) → Left (form_of form) partial (room_for ns₀ m₀.blob.now table) body lines at tokens
   pub within : (at ≤ length body) × (lines ≤ at)
   pub kept : KeptIn m₀ m
+  pub table : m.table.now ≡ m₀.table.now
   pub same : SameSlices m₀ m
   pub nodes : length ns ≡ length ns₀
 
@@ -206,6 +208,7 @@ going_starts form body m ns st B = record {
   left = λ partial table. refl;
   within = (omega arith, omega arith);
   kept = record { single = refl; offsets = refl; roots = refl };
+  table = refl;
   same = same_self m;
   nodes = refl;
 }
@@ -217,7 +220,8 @@ module _ {form : Option Edition} {body : List ℕ} {m₀ : MemoryMut} {ns₀ : N
 
   pub going_done : next_in (form_of form) (drop at body) ≡ None → (partial : Bool) (table : ℕ)
       → RecordsAs (form_of form) partial (room_for ns₀ m₀.blob.now table) body (Ok st) m.single.now m.offsets.now m.blob.now m.roots.now ns
-  going_done e partial table = (ts, left-none form partial (room_for ns₀ m₀.blob.now table) body lines at ts (G.left partial table) e, G.built)
+  going_done e partial table =
+      (ts, left-none form partial (room_for ns₀ m₀.blob.now table) body lines at ts (G.left partial table) e, G.built)
 
   module _ (l : Line) (L : RecordFrom form body at l) (m' : MemoryMut) (ns' : Nodes) where
     abbrev Takes : Result Build Refusal → Type 0
@@ -252,9 +256,10 @@ module _ {form : Option Edition} {body : List ℕ} {m₀ : MemoryMut} {ns₀ : N
         → load (form_of form) partial (room_for ns₀ m₀.blob.now table) body ≡ refused (number e) (line (lines + 1))
     going_refused e P partial table = sym (turned (refuse (number e)) partial table (one table (refuse (number e)) (P ts G.built table)))
 
-    pub going_on : (st' : Build) → Takes (Ok st') → KeptIn m m' → SameSlices m m' → length ns' ≡ length ns
+    pub going_on : (st' : Build) → Takes (Ok st') → KeptIn m m' → m'.table.now ≡ m.table.now → SameSlices m m'
+        → length ns' ≡ length ns
         → Going form body m₀ ns₀ m' ns' l.next (lines + 1) st'
-    going_on st' P K S en =
+    going_on st' P K t S en =
         let (us, passes, B) = P ts G.built in
         let w = record_within form body at l L in
         let a = w.0 in
@@ -264,6 +269,7 @@ module _ {form : Option Edition} {body : List ℕ} {m₀ : MemoryMut} {ns₀ : N
           left = λ partial table. turned (pass us) partial table (one table (pass us) (passes table));
           within = (w.1, omega arith);
           kept = kept_trans G.kept K;
+          table = t ∙ G.table;
           same = same_trans m₀ m m' G.same S;
           nodes = en ∙ G.nodes;
         }

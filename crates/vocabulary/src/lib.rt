@@ -91,6 +91,7 @@ pub fn from_source(
 }
 
 /// A load of a text of edition 1 in full mode: every byte must have a one-byte token.
+// Kept: the Rust's two entries under their names; each is one call of `from_source`.
 pub fn from_vocab_str(
     text: &[u8],
     memory: &mut MemoryMut,

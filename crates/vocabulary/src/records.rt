@@ -1,5 +1,5 @@
 // The records of a source, taken one by one: each states a token, and the builder takes it.
-ghost use Rattle.std.specs.Prelude.{Bool, List, [], ℕ, ◌≤◌, length};
+ghost use Rattle.std.specs.Prelude.{◌≡◌, Bool, List, [], ℕ, ◌≤◌, length};
 ghost use Rattle.spec.specs.Token.{Token};
 ghost use Rattle.laws.specs.Reads.{LongEnough};
 ghost use Rattle.memory.specs.Lent.{cells_in, SameSlices};
@@ -27,6 +27,7 @@ fn take_record(
         → TakenAs (form_of form) (room_for nodes.old memory.old.blob.now) ts part.now result
         memory.new.single.now memory.new.offsets.now memory.new.blob.now memory.new.roots.now nodes.new }
     ensures kept { KeptIn memory.old memory.new }
+    ensures table { memory.new.table.now ≡ memory.old.table.now }
     ensures same { SameSlices memory.old memory.new }
 {
     let found = read::read_record(part, form, build.previous, cells)?;
@@ -46,6 +47,7 @@ pub fn take_records(
         → RecordsAs (form_of form) partial (room_for nodes.old memory.old.blob.now table) body.now result
         memory.new.single.now memory.new.offsets.now memory.new.blob.now memory.new.roots.now nodes.new }
     ensures kept { KeptIn memory.old memory.new }
+    ensures table { memory.new.table.now ≡ memory.old.table.now }
     ensures same { SameSlices memory.old memory.new }
 {
     let mut cells = [0u8; 255];

@@ -11,7 +11,8 @@ use Rattle.lossy.proofs.read_text.Given as goal
 abbrev pub invariant-loop-id : goal.invariant-loop-id
 invariant-loop-id l = record {
   fits : l.at.len ≤ l.room;
-  whole : length (lossy (each (lookup (cells_of l.memory)) l.ids)) ≡ l.at.len + length (left (cells_of l.memory) l.ids l.id-index l.at.held);
+  whole : length (lossy (each (lookup (cells_of l.memory)) l.ids))
+      ≡ l.at.len + length (left (cells_of l.memory) l.ids l.id-index l.at.held);
   text : length (lossy (each (lookup (cells_of l.memory)) l.ids)) ≤ length l.initial.out
       → TextLeft (cells_of l.memory) l.ids l.initial.out l.id-index l.at.held l.at.len l.out;
 }

@@ -61,4 +61,5 @@ loop-byte-preserved c =
 pub returns : goal.returns
 unfolding follow
 returns c =
-    sym (ap (λ l. follow c.args.table.now l (trail_of c.loop-byte.trail)) (drop_of_length-le c.args.rest.now c.loop-byte-test.false)) ∙ c.loop-byte.invariant.same
+    sym (ap (λ l. follow c.args.table.now l (trail_of c.loop-byte.trail))
+    (drop_of_length-le c.args.rest.now c.loop-byte-test.false)) ∙ c.loop-byte.invariant.same

@@ -35,9 +35,9 @@ loop-preserved c =
     record {
       within = subst (Within c.in_ok-front.front) v.same.end t.within;
       same = record {
-        used = s.used ∙ v.same.used;
-        bases = s.bases ∙ v.same.bases;
-        cursors = s.cursors ∙ v.same.cursors;
+        used = (s.used.0 ∙ v.same.used.0, s.used.1 ∙ v.same.used.1);
+        bases = (s.bases.0 ∙ v.same.bases.0, s.bases.1 ∙ v.same.bases.1);
+        cursors = (s.cursors.0 ∙ v.same.cursors.0, s.cursors.1 ∙ v.same.cursors.1);
         end = s.end ∙ v.same.end;
       };
       along = goes_on v.along c.if-node-eq0.false

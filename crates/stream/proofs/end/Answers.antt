@@ -74,7 +74,8 @@ returns-in-Err-NoToken c =
     let n = length-take-le s.held_len s.held (omega (arith, p.few)) in
     gives-stopped _ (record_of s) a.out.now _ _ (sym c.if-too_short.ensures)
     (goes ∙ end_as_add (record_of s) a.out.now (omega arith))
-    (omega (arith, n, p.room)) c.in-Err-NoToken.ensures.cells _ _ _ _ (told c.in-Err-NoToken.field-0-is c.in-Err-NoToken.ensures.answer) refl c.stopped.ensures
+    (omega (arith, n, p.room)) c.in-Err-NoToken.ensures.cells _ _ _ _
+    (told c.in-Err-NoToken.field-0-is c.in-Err-NoToken.ensures.answer) refl c.stopped.ensures
 
 pub unreachable-requires : goal.unreachable-requires
 unreachable-requires c =
@@ -83,7 +84,8 @@ unreachable-requires c =
     let p = passes _ _ _ (c.in_default.ensures [] a.out.now refl refl) in
     let n = length-take-le s.held_len s.held (omega (arith, p.few)) in
     says_other _ (take s.held_len s.held) (length a.out.now) (sym c.if-too_short.ensures)
-    (omega (arith, n, p.room)) _ (λ z. omega arith) (λ z. omega arith) (told c.in-Err-ShortMemory.field-0-is c.in-Err-ShortMemory.ensures.answer)
+    (omega (arith, n, p.room)) _ (λ z. omega arith) (λ z. omega arith)
+    (told c.in-Err-ShortMemory.field-0-is c.in-Err-ShortMemory.ensures.answer)
 
 pub unreachable-requires-in-Err-Full : goal.unreachable-requires-in-Err-Full
 unreachable-requires-in-Err-Full c =

@@ -69,7 +69,7 @@ returns-clause-built c =
     let rest = c.finish.ensures.rest in (
       R.0,
       read ∙ F.0,
-      c.of.ensures R.0 (counts_of_built R.2) F.1,
+      c.of.ensures.means R.0 (counts_of_built R.2) F.1,
       same_memory rest.0 refl rest.1 refl refl ∙ finished_memory R.2 _ _ _ K S.blob.1 S.table.1 F.2 F.3 F.4,
     )
 

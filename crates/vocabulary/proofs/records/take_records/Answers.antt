@@ -1,7 +1,8 @@
 -- One turn after another keeps what is left of the source.
-use Rattle.std.proofs.Common.{arith}
+use Rattle.std.proofs.Common.{◌∙◌, arith}
 use Rattle.answers.proofs.Settling.{kept_trans, long_kept}
-use Rattle.vocabulary.proofs.RecordTurns.{small_of, a-record, no_record, record_within, same_trans, going_starts, going_done, going_refused, going_on}
+use Rattle.vocabulary.proofs.RecordTurns.{small_of, a-record, no_record, record_within, same_trans, going_starts, going_done}
+use Rattle.vocabulary.proofs.RecordTurns.{going_refused, going_on}
 use Rattle.vocabulary.proofs.records.take_records.Goals as goal
 
 pub loop-line-init : goal.loop-line-init
@@ -27,7 +28,8 @@ loop-line-preserved c =
     let l = c.loop-line in
     let t = c.take_record in
     let L = a-record c.args.form c.args.body.now l.at c.next_line.result c.in-Some.line c.in-Some.is c.next_line.ensures in (
-      going_on l.invariant.0 c.in-Some.line L t.new.memory t.new.nodes c.in-Ok.more c.in-Ok.ensures.stands t.ensures.kept t.ensures.same
+      going_on l.invariant.0 c.in-Some.line L t.new.memory t.new.nodes c.in-Ok.more c.in-Ok.ensures.stands t.ensures.kept
+      t.ensures.table t.ensures.same
           t.auto.nodes,
       (let k = t.auto.cells in let h = l.invariant.1 in omega arith),
     )
@@ -55,3 +57,9 @@ returns-clause-kept c = c.loop-line.invariant.0.kept
 
 pub returns-clause-same : goal.returns-clause-same
 returns-clause-same c = c.loop-line.invariant.0.same
+
+pub returns-in-Err-clause-table : goal.returns-in-Err-clause-table
+returns-in-Err-clause-table c = c.take_record.ensures.table ∙ c.loop-line.invariant.0.table
+
+pub returns-clause-table : goal.returns-clause-table
+returns-clause-table c = c.loop-line.invariant.0.table
