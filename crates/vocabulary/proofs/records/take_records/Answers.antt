@@ -29,7 +29,7 @@ loop-line-preserved c =
     let t = c.take_record in
     let L = a-record c.args.form c.args.body.now l.at c.next_line.result c.in-Some.line c.in-Some.is c.next_line.ensures in (
       going_on l.invariant.0 c.in-Some.line L t.new.memory t.new.nodes c.in-Ok.more c.in-Ok.ensures.stands t.ensures.kept
-      t.ensures.table t.ensures.same
+          t.ensures.table t.ensures.same
           t.auto.nodes,
       (let k = t.auto.cells in let h = l.invariant.1 in omega arith),
     )
