@@ -94,8 +94,9 @@ say('`while` and `loop`', loops)
 
 print('4. equality, order, copying, conversion and printing by hand')
 conv = [at(p, n, name) for p, n, k, name, h, b in ALL if k == 'fn' and (
-    re.search(r'_to_|^(larger|smaller|one_less|short|next_place|after|next_root|byte_at|put_byte|word_at|put|place_kind|place_value)$', name)
-    or re.match(r'(numbered|write|write_number|write_decoded|write_refusal|outcome_of|whole_outcome|text_of|edition_of)$', name)
+    re.search(r'_to_|^(larger|smaller|one_less|short|next_place|after|next_root|byte_at|put_byte|word_at|put)$', name)
+    or re.match(r'(place_kind|place_value|numbered)$', name)
+    or re.match(r'(write|write_number|write_decoded|write_refusal|outcome_of|whole_outcome|text_of|edition_of)$', name)
     or re.match(r'(finished|finished_of|finished_by)$', name))]
 copies = []
 for p in SOURCES:
