@@ -5,6 +5,7 @@ ghost use Rattle.std.specs.Prelude.{◌≡◌, List, ℕ, ◌≤◌, ◌<◌, le
 ghost use Rattle.spec.specs.Token.{Token};
 ghost use Rattle.spec.specs.Load.{Room, table_room};
 ghost use Rattle.laws.specs.Reads.{LongEnough};
+ghost use Rattle.entry.specs.TokenOf.{token_of};
 ghost use Rattle.memory.specs.Lent.{cells_in, SameSlices};
 ghost use Rattle.nodes.specs.Run.{room};
 ghost use Rattle.nodes.specs.Work.{SameWork};
@@ -12,6 +13,7 @@ ghost use Rattle.nodes.specs.Stands.{RootsKept};
 ghost use Rattle.tokens.specs.Built.{Built, BuiltIn, EnteredAs, KeptIn, Small, room_for, PushedIn};
 ghost use Rattle.ending.specs.EndOfBuild.{FinishedAs};
 
+use entry::Entry;
 use memory::MemoryMut;
 use nodes::{Node, Work};
 use refusals::{LoadError, Refusal};
@@ -22,11 +24,10 @@ fn enter(
     memory: &mut MemoryMut,
     nodes: &mut [Node],
     st: Build,
-    id: u16,
-    bytes: &[u8],
+    token: Entry,
 ) -> Result<u32, Refusal>
-    requires { LongEnough (cells_in memory.old) × (1 ≤ length bytes.now) × (1 ≤ st.made) }
-    ensures stands { EnteredAs memory.old.single.now memory.old.roots.now nodes.old st (record { id = id; bytes = bytes.now }) result
+    requires { LongEnough (cells_in memory.old) × (1 ≤ st.made) }
+    ensures stands { EnteredAs memory.old.single.now memory.old.roots.now nodes.old st (token_of token.entry) result
         memory.new.roots.now nodes.new }
     ensures kept { RootsKept memory.old.roots.now memory.new.roots.now }
     ensures rest { (memory.new.single.now ≡ memory.old.single.now) × (memory.new.offsets.now ≡ memory.old.offsets.now)
@@ -37,31 +38,35 @@ fn enter(
     if tokens::is_full(most, st.made) {
         return Err(Refusal::NodesFull);
     }
-    if bytes.len() == 1 {
-        return tokens::enter_one(memory.as_memory().single, st.made, bytes);
+    if token.bytes.len() == 1 {
+        return tokens::enter_one(memory.as_memory().single, st.made, token.bytes);
     }
-    trie::insert(&mut *memory.roots, nodes, most, st.made, bytes, id)
+    trie::insert(
+        &mut *memory.roots,
+        nodes,
+        most,
+        st.made,
+        token.bytes,
+        token.id,
+    )
 }
 
-/// One more token, with an id above the last and 1 to 255 bytes; or 16, 17 or 18. The table stays as it is.
+/// One more token, with an id above the last; or 16, 17 or 18. The table stays as it is.
 pub fn push(
     memory: &mut MemoryMut,
     nodes: &mut [Node],
     st: Build,
-    id: u16,
-    bytes: &[u8],
+    token: Entry,
 ) -> Result<Build, Refusal>
-    requires { LongEnough (cells_in memory.old) × (1 ≤ length bytes.now) × (length bytes.now ≤ 255) × (st.previous < id)
-        × Small st }
+    requires { LongEnough (cells_in memory.old) × (st.previous < token.id) × Small st }
     ensures stands { (table : ℕ) (ts : List Token) → BuiltIn ts memory.old nodes.old st
-        → PushedIn (room_for nodes.old memory.old.blob.now table) ts (record { id = id; bytes = bytes.now }) result
-        memory.new nodes.new }
+        → PushedIn (room_for nodes.old memory.old.blob.now table) ts (token_of token.entry) result memory.new nodes.new }
     ensures kept { KeptIn memory.old memory.new }
     ensures table { memory.new.table.now ≡ memory.old.table.now }
     ensures same { SameSlices memory.old memory.new }
 {
-    let entered = enter(memory, nodes, st, id, bytes);
-    tokens::push_entered(memory, st, id, bytes, entered)
+    let entered = enter(memory, nodes, st, token);
+    tokens::push_entered(memory, st, token, entered)
 }
 
 /// The end of a build: the offsets behind the last id, the roots and the table. The work memory may hold anything then.

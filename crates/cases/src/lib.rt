@@ -1,48 +1,28 @@
 // For programs that run cases of standard input: bytes in hexadecimal and the ids that they spell, and how answers are written.
 #![tactic(auto)]
 
-ghost use Rattle.std.specs.Prelude.{◌≤◌, length, IfOk};
+ghost use Rattle.std.specs.Prelude.{◌≤◌, length};
 
 use std::io;
-use std::io::Read;
-
-// Standard input up to its end, or what of it fills the bytes; how many there were.
-pub fn read_full<R: Input>(rt: &R, input: &mut [u8]) -> io::Result<usize>
-    ensures { IfOk result (λ n. n ≤ length input.new) }
-{
-    let mut reader = rt.reader();
-    // Kept: one read gives any number of bytes, so no range gives the places.
-    let mut at = 0;
-    while at < input.len() {
-        let n = reader.read(&mut input[at..])?;
-        if n == 0 {
-            return Ok(at);
-        }
-        at += n;
-    }
-    Ok(at)
-}
-
-pub fn write(rt: &impl Print, text: &[u8]) -> io::Result<()> {
-    rt.write_all(text)
-}
 
 // Bytes in hexadecimal, in brackets.
 pub fn write_bytes(rt: &impl Print, bytes: &[u8]) -> io::Result<()> {
-    write(rt, b"[")?;
+    print!(rt; "[")?;
     for byte in bytes {
         print!(rt; "{byte:02x}")?;
     }
-    write(rt, b"]")
+    print!(rt; "]")
 }
 
-// The first count ids.
-pub fn write_ids(rt: &impl Print, ids: &[u32], count: usize) -> io::Result<()> {
-    for id in ids.iter().take(count) {
+// Ids, with a space before each.
+pub fn write_ids(rt: &impl Print, ids: &[u32]) -> io::Result<()> {
+    for id in ids {
         print!(rt; " {id}")?;
     }
     Ok(())
 }
+
+// Kept: unhex and read_ids are lent their cells, and can't run out of memory, which a Vec made here could.
 
 // The byte that two hexadecimal digits spell, none if they do not.
 fn byte_of(high: u8, low: u8) -> Option<u8> {

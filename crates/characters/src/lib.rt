@@ -7,6 +7,7 @@ ghost use Rattle.spec.specs.Utf8.{utf8_of, point_of, white_space, blank};
 ghost use Rattle.characters.specs.CharacterBytes.{encoded_as};
 
 /// The White_Space characters of document 01.
+// Kept: document 01 lists them, and any number may be asked; std's is_whitespace takes a char, by a table of its own.
 #[tactic(auto, unfolding(spec::specs::Utf8::white_space, spec::specs::Utf8::white_ranges, spec::specs::Lists::any))]
 pub fn is_white_space(c: u32) -> bool
     ensures { result ≡ white_space c }
@@ -28,6 +29,7 @@ pub fn is_white_space(c: u32) -> bool
 }
 
 // The code point of the bytes of one character; 0 if no character has so many.
+// Kept: its caller hands it a character's bytes, so that an Option's None would be a branch that never comes.
 fn point_of(bytes: &[u8]) -> u32
     ensures { result ≡ point_of bytes.now }
 {
@@ -50,22 +52,22 @@ fn point_of(bytes: &[u8]) -> u32
 pub fn is_blank(line: &[u8]) -> bool
     ensures { result ≡ blank line.now }
 {
-    // Kept: a character has one to four bytes, so no range gives the places; std's chars goes by a definition of UTF-8 of its own.
-    let mut i = 0;
-    while i < line.len() {
-        let utf8::Step::Char(n) = utf8::step_at(line, i) else {
+    let mut rest = line;
+    while !rest.is_empty() {
+        let utf8::Step::Char(n) = utf8::first_step(rest) else {
             return false;
         };
-        if !is_white_space(point_of(&line[i..i + n])) {
+        let (first, behind) = rest.split_at(n);
+        if !is_white_space(point_of(first)) {
             return false;
         }
-        i += n;
+        rest = behind;
     }
     true
 }
 
 /// The bytes of a character: `len` of them, and zeros.
-// Kept: without the heap a value has room for the four bytes that a character can take, and says how many it has.
+// Kept: no heap, and a caller lends no room: the bytes, four at most, come by value, with how many there are.
 #[derive(Clone, Copy)]
 pub struct Encoded {
     pub bytes: [u8; 4],
@@ -80,6 +82,7 @@ pub fn encode(c: u32) -> Encoded
     let Some(c) = char::from_u32(c) else {
         return Encoded { bytes, len: 0 };
     };
+    // Kept: std's encode_utf8 promises nothing of the cells behind the text, so its text is copied into zeros.
     let mut room = [0; 4];
     let text = c.encode_utf8(&mut room);
     bytes[..text.len()].copy_from_slice(text.as_bytes());

@@ -89,24 +89,30 @@ module _ (m : Memory) (i : ℕ) where
     pub lookup-unpaired : length m.offsets ≤ i + 1 → lookup m i ≡ []
     lookup-unpaired h = lookup-empty (omega (arith, get_or-eq_default m.offsets 0 h))
 
--- what stands between an id's two offsets, in order and inside the blob
-module _ (m : Memory) (i : ℕ) (near : i < 65536) (start end : ℕ) (a : start ≡ get_or m.offsets i 0) (e : end ≡ get_or m.offsets (i + 1) 0)
-    (order : start ≤ end) (inside : end ≤ length m.blob) (token : List ℕ) (t : token ≡ take (end - start) (drop start m.blob)) where
-  size : length token ≡ end - start
-  size = ap length t ∙ length-take-le (end - start) (drop start m.blob) (simp length-drop (omega arith))
+-- the token that stands between an id's two offsets: the id's, if it is not too short and not too long
+pub record Between (m : Memory) (i : ℕ) (token : List ℕ) : Type 0 where
+  pub good : 1 ≤ length token → length token ≤ 255 → Some token ≡ if_any (lookup m i)
+  pub bad : (1 ≤ length token → length token ≤ 255 → ⊥) → None ≡ if_any (lookup m i)
 
-  pub token-good : 1 ≤ length token → length token ≤ 255 → Some token ≡ if_any (lookup m i)
-  token-good some short =
-      let l = lookup-token m i near (omega arith) (omega arith) (omega (arith, size)) in
-      let same : token ≡ lookup m i = t ∙ rw (a, e) (sym l) in
-      if_any-some token (lookup m i) same (omega (arith, ap length same))
-
-  pub token-bad : (1 ≤ length token → length token ≤ 255 → ⊥) → None ≡ if_any (lookup m i)
-  token-bad unfit = if_any-none _ (go (length token) refl)
-    where
-      go : (n : ℕ) → length token ≡ n → lookup m i ≡ []
-      go zero h = lookup-empty m i near (omega (arith, size))
-      go (suc n) h = lookup-long m i near (omega arith) (omega arith) (omega (arith, size, unfit))
+pub between : (m : Memory) (i : ℕ) → i < 65536 → (start end : ℕ) → start ≡ get_or m.offsets i 0 → end ≡ get_or m.offsets (i + 1) 0
+    → start ≤ end → end ≤ length m.blob → (token : List ℕ) → token ≡ take (end - start) (drop start m.blob) → Between m i token
+between m i near start end a e ordered within token t =
+    let size : length token ≡ end - start =
+    ap length t ∙ length-take-le (end - start) (drop start m.blob) (simp length-drop (omega (arith, ordered, within))) in
+    let order : get_or m.offsets i 0 ≤ get_or m.offsets (i + 1) 0 = omega (arith, ordered, a, e) in
+    let inside : get_or m.offsets (i + 1) 0 ≤ length m.blob = omega (arith, within, e) in
+    record {
+      good = λ some short.
+          let l = lookup-token m i near order inside (omega (arith, size, short, a, e)) in
+          let same : token ≡ lookup m i = t ∙ rw (a, e) (sym l) in
+          if_any-some token (lookup m i) same (omega (arith, some, ap length same));
+      bad = λ unfit. if_any-none _ (go (length token) refl unfit size order inside);
+    }
+  where
+    go : (n : ℕ) → length token ≡ n → (1 ≤ length token → length token ≤ 255 → ⊥) → length token ≡ end - start
+        → get_or m.offsets i 0 ≤ get_or m.offsets (i + 1) 0 → get_or m.offsets (i + 1) 0 ≤ length m.blob → lookup m i ≡ []
+    go zero h unfit size order inside = lookup-empty m i near (omega (arith, size, h, a, e))
+    go (suc n) h unfit size order inside = lookup-long m i near order inside (omega (arith, size, unfit, h, a, e))
 
 -- An id with bytes has them between its two offsets, in the blob.
 pub record Present (m : Memory) (i : ℕ) : Type 0 where

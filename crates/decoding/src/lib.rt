@@ -63,6 +63,7 @@ fn measure(memory: Memory<'_>, ids: &[u32], room: usize) -> Result<usize, Decode
 }
 
 /// Where a token's bytes stand in the blob.
+// Kept: `write_tokens` hands start and length to `copy_token`; a Range would be taken apart there, and its length computed again.
 #[derive(Clone, Copy, Debug, PartialEq, Eq)]
 pub struct Part {
     pub start: usize,
@@ -84,11 +85,12 @@ pub fn part_of(offsets: &[u32], id: u32) -> Part
     }
 }
 
-// Writes the bytes of ids that all have some into an output of just their length.
-fn write_tokens(memory: Memory<'_>, ids: &[u32], out: &mut [u8])
+/// Writes the bytes of ids that all have some into an output of just their length.
+pub fn write_tokens(memory: Memory<'_>, ids: &[u32], out: &mut [u8])
     requires { Joined (cells_of memory) ids.now (length ids.now) (length out.old) }
     ensures { out.new ≡ each (lookup_of (cells_of memory.entry)) ids.now }
 {
+    // Kept: without `at` each turn ends in `room = &mut mem::take(&mut room)[len..]`, which is no plainer.
     let mut at = 0;
     for &id in ids {
         let Part { start, len } = part_of(memory.offsets, id);

@@ -36,10 +36,10 @@ pub fn encode_sequential_bytes(
     }
     let mut offset = 0;
     let mut count = 0;
-    // Kept: each step is as long as its token, and an answer says its place; no plainer over the rest as a slice.
+    // Kept: an answer says its place in the input, which over the rest as a slice would be counted beside it.
     while offset < src.len() {
         let byte = src[offset];
-        let Some(found) = matching::match_at(memory, src, offset) else {
+        let Some(found) = matching::match_at(memory, &src[offset..]) else {
             return Err(EncodeError::NoToken {
                 count,
                 offset,

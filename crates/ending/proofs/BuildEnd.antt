@@ -1,34 +1,33 @@
 -- The end of a build: the theorem that `finish` cites, and its parts. Assumes nothing.
-use mathlib.Core.Path.{◌≡◌, refl, sym, ap, ap₂, ◌∙◌, subst}
-use mathlib.Core.Logic.{inl, inr}
-use mathlib.Core.Bool.{Bool, true, false, cond}
+use mathlib.Core.Path.{◌≡◌, refl, sym, ap, ◌∙◌, subst}
+use mathlib.Core.Bool.{Bool, true, false, not, cond}
 use Rattle.std.specs.Prelude.{Option, None, Some}
-use mathlib.Core.List.{List, [], ◌∷◌}
-use Prim.Native.Nat.{ℕ, suc, ◌+◌, ◌-◌, ◌≤◌, ◌<◌}
+use Rattle.std.specs.List.{position, position_from}
+use Rattle.std.proofs.lemmas.Iterator.Adapters.{position_from-zero}
+use mathlib.Core.List.{List, [], ◌∷◌, Memᴰ as Mem}
+use Prim.Native.Nat.{ℕ, zero, suc, ◌+◌, ◌-◌, ◌≤◌, ◌<◌}
 use native.Mathlib.Omega.{arith}
-use lib.IntN.{ℤ, pos}
+use lib.IntN.{ℤ}
 use lib.Dec.{leb}
-use lib.ListN.{length, drop, get_or, replicate, length-replicate, get_or-replicate}
+use lib.ListN.{length, take, drop, replicate}
 use lib.Seq.{length-sets}
-use borrow.Author.Tests.{leb-true, leb-false}
 use Rattle.spec.specs.Lists.{over, up_from}
-use Rattle.spec.specs.Token.{Token, seen}
+use Rattle.spec.specs.Token.{Token, id_of, seen}
 use Rattle.nodes.specs.Run.{Nodes}
 use Rattle.spec.specs.Layout.{table_words}
-use Rattle.spec.specs.Memory.{length_before, offset_list}
+use Rattle.spec.specs.Memory.{id_or_none, single_list, length_before, offset_list}
 use Rattle.spec.specs.Load.{Room, nowhere, byte, Outcome, accepted, refused, missing, demanded, finish}
-use Rattle.laws.specs.Tests.{Tested, either}
 use Rattle.laws.specs.Reads.{offset-length}
-use Rattle.laws.specs.Spans.{before-all}
 use Rattle.words.specs.LayoutAnswer.{answer_for, PackedAs}
 use Rattle.std.specs.Prelude.{Result, Ok, Err}
 use Rattle.refusals.specs.declared.LoadError.{LoadError}
 use Rattle.refusals.specs.declared.Refusal.TheVariants.{NoTokens, ByteMissing}
 use Rattle.refusals.specs.declared.Place.TheVariants.{Byte}
+use Rattle.nodes.proofs.InsertionMeans.{seen-id}
 use Rattle.tokens.specs.Built.{Built, Kept, is_taken, set_offsets}
 use Rattle.ending.specs.EndOfBuild.{SingleOf, FinishedAs, finished_of}
-use Rattle.tokens.proofs.CellRuns.{run-before, run_in, run-behind, by_index, over_of}
-use Rattle.tokens.proofs.PushMeans.{taken-seen, last_most}
+use Rattle.tokens.proofs.CellRuns.{by_index, over_of}
+use Rattle.tokens.proofs.PushMeans.{taken_is, offsets_at, offsets_kept}
 use Rattle.tokens.specs.declared.Build.{Build}
 
 -- ---- a byte that is missing, by its cell of `single`
@@ -36,63 +35,42 @@ use Rattle.tokens.specs.declared.Build.{Build}
 pub single_of : {ts : List Token} {s : List ℤ} {os bl rs : List ℕ} {ns : Nodes} {st : Build} → Built ts s os bl rs ns st → SingleOf ts s
 single_of B = record { low = B.stands.low; cells = B.single }
 
-module _ (ts : List Token) (s : List ℤ) (S : SingleOf ts s) (b : ℕ) where
-  step : (n : ℕ) → missing ts (suc n) b ≡ cond (seen ts (b ∷ [])) (missing ts n (suc b)) (Some b)
-  unfolding missing
-  step n = refl
+-- a cell of `single` that is not an id
+abbrev pub is_free : ℤ → Bool
+is_free x = not (is_taken x)
 
-  here : b < 256 → (d : Bool) → is_taken (get_or s b (pos 0)) ≡ d
-      → missing ts (256 - b) b ≡ cond d (missing ts (256 - (b + 1)) (b + 1)) (Some b)
-  here h d e =
-      let k : 256 - b ≡ suc (255 - b) = omega arith in
-      let j : 255 - b ≡ 256 - (b + 1) = omega arith in
-      let i : suc b ≡ b + 1 = omega arith in
-      ap (λ (n : ℕ). missing ts n b) k ∙ step (255 - b)
-      ∙ ap₂ (λ (c : Bool) (o : Option ℕ). cond c o (Some b)) (sym (taken-seen ts S.low s S.cells b h) ∙ e) (ap₂ (missing ts) j i)
+-- the first cell that is not an id is that of the lowest byte without a token
+module _ (ts : List Token) (low : (u : Token) → Mem u ts → 1 ≤ u.id) where
+  abbrev cells : ℕ → ℕ → List ℤ
+  cells = up_from (λ (c : ℕ). id_or_none (id_of ts (c ∷ [])))
 
-  pub missing-here : b < 256 → is_taken (get_or s b (pos 0)) ≡ false → Some b ≡ missing ts (256 - b) b
-  missing-here h e = sym (here h false e)
+  free_from : (n b : ℕ) → position_from is_free b (cells n b) ≡ missing ts n b
+  unfolding up_from missing
+  free_from zero b = refl
+  free_from (suc n) b = rw (taken_is (id_of ts (b ∷ [])) ∙ sym (seen-id ts (b ∷ []) low)) (go (seen ts (b ∷ [])) (free_from n (suc b)))
+    where
+      go : (c : Bool) → position_from is_free (suc b) (cells n (suc b)) ≡ missing ts n (suc b)
+          → cond (not c) (Some b) (position_from is_free (b + 1) (cells n (suc b))) ≡ cond c (missing ts n (suc b)) (Some b)
+      go true e = ap (λ (k : ℕ). position_from is_free k (cells n (suc b))) (omega arith) ∙ e
+      go false e = refl
 
-  pub missing-next : b < 256 → is_taken (get_or s b (pos 0)) ≡ true → missing ts (256 - (b + 1)) (b + 1) ≡ missing ts (256 - b) b
-  missing-next h e = sym (here h true e)
-
-pub missing-end : (ts : List Token) (b : ℕ) → 256 ≤ b → None ≡ missing ts (256 - b) b
-missing-end ts b h = let k : 256 - b ≡ 0 = omega arith in sym (ap (λ (n : ℕ). missing ts n b) k ∙ (unfold missing in refl))
+pub free-missing : (ts : List Token) (s : List ℤ) → SingleOf ts s → position is_free (take 256 s) ≡ missing ts 256 0
+unfolding single_list
+free-missing ts s S =
+    position_from-zero is_free (take 256 s) ∙ ap (position_from is_free 0) S.cells ∙ free_from ts S.low 256 0
 
 -- ---- the offsets behind the last id
 
 module _ {ts : List Token} {s : List ℤ} {os bl rs : List ℕ} {ns : Nodes} {st : Build} (B : Built ts s os bl rs ns st)
     (long : 65537 ≤ length os) (small : st.previous < 65536) where
-  offsets-end : (i : ℕ) → i < 65537 → get_or (set_offsets os st.previous 65536 st.used) i 0 ≡ length_before ts i
-  offsets-end i h = go (either (leb i st.previous))
-    where
-      go : Tested (leb i st.previous) → get_or (set_offsets os st.previous 65536 st.used) i 0 ≡ length_before ts i
-      go (inl e) =
-          let p = leb-true i st.previous e in
-          run-before (replicate (65536 - st.previous) st.used) os (st.previous + 1) i 0 (omega arith) ∙ B.offsets i p
-      go (inr e) =
-          let p = leb-false i st.previous e in
-          let k : st.previous + 1 + (i - (st.previous + 1)) ≡ i = omega arith in
-          let l = length-replicate (65536 - st.previous) st.used in
-          let q = B.previous in
-          ap (λ (x : ℕ). get_or (set_offsets os st.previous 65536 st.used) x 0) (sym k)
-          ∙ run_in (replicate (65536 - st.previous) st.used) os (st.previous + 1) (i - (st.previous + 1)) 0 (omega arith)
-          (omega arith)
-          ∙ get_or-replicate (65536 - st.previous) (i - (st.previous + 1)) st.used 0 (omega arith)
-          ∙ B.used ∙ sym (before-all ts i (λ u mu. let w = last_most 0 ts B.valid.rising u mu in omega arith))
-
-  kept-end : drop 65537 (set_offsets os st.previous 65536 st.used) ≡ drop 65537 os
-  kept-end =
-      run-behind (replicate (65536 - st.previous) st.used) os (st.previous + 1) 65537
-      (let l = length-replicate (65536 - st.previous) st.used in omega arith)
-
   pub offsets-all : set_offsets os st.previous 65536 st.used ≡ over (offset_list ts) os
   unfolding offset_list
   offsets-all =
       let O : List ℕ = set_offsets os st.previous 65536 st.used in
       let w = length-sets os (st.previous + 1) (replicate (65536 - st.previous) st.used) in
-      over_of 65537 O (up_from (length_before ts) 65537 0) os (by_index O (length_before ts) 65537 0 (omega arith) offsets-end)
-      (offset-length ts) kept-end
+      over_of 65537 O (up_from (length_before ts) 65537 0) os (by_index O (length_before ts) 65537 0 (omega arith)
+      (λ i h. offsets_at B 65536 small long i (omega arith)))
+      (offset-length ts) (offsets_kept os st.previous 65536 st.used small (omega arith))
 
 -- ---- 19, 20 and 21, for each way that the end can go
 
@@ -169,8 +147,6 @@ pub end_kept : {s : List ℤ} {os os' rs rs' : List ℕ} (previous total : ℕ) 
     → drop 65536 rs' ≡ drop 65536 rs → Kept s os rs s os' rs'
 end_kept {s} {os} previous total h e k = record {
   single = refl;
-  offsets = ap (drop 65537) e
-      ∙ run-behind (replicate (65536 - previous) total) os (previous + 1) 65537 (let l = length-replicate (65536 - previous) total in
-      omega arith);
+  offsets = ap (drop 65537) e ∙ offsets_kept os previous 65536 total h (omega arith);
   roots = k;
 }

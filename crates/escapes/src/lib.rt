@@ -6,7 +6,8 @@ ghost use Rattle.std.specs.Prelude.{◌≡◌, ◌≤◌, option_map};
 ghost use Rattle.spec.specs.Literal.{byte_escape, point_escape, escape, octal_escape, escape2, escapes_of, piece_at};
 ghost use Rattle.escapes.specs.Answers.{piece_of};
 
-// What stands at a place inside the quotes: a byte or the UTF-8 of a code point, and how many bytes behind the first belong to it.
+/// What stands at a place inside the quotes: a byte or the UTF-8 of a code point, and how many bytes behind the first belong to it.
+// Kept: each escape makes one value of both; a struct of content and `more` would be two values in every arm.
 #[derive(Clone, Copy)]
 pub enum Piece {
     Byte(u8, usize),
@@ -14,7 +15,7 @@ pub enum Piece {
 }
 
 impl Piece {
-    // How many bytes behind the first belong to it.
+    /// How many bytes behind the first belong to it.
     pub fn more(self) -> usize
         ensures { result ≡ (piece_of self).more }
     {
@@ -105,7 +106,8 @@ fn escape_2(rest: &[u8], in_bytes: bool) -> Option<Piece>
 }
 
 // The escape of an edition: "files of edition 1 read as ever".
-// Kept: any number may be given for the edition, and a type of two editions would ask more of callers.
+// Kept: parse_python_literal_into takes any number for the edition; a type of two editions would ask more of its callers.
+// Kept: `in_bytes` goes on without the edition to five functions, so that a struct of both would be taken apart at once.
 #[tactic(auto, unfolding(spec::specs::Literal::escapes_of))]
 fn escape_of(rest: &[u8], in_bytes: bool, edition: u32) -> Option<Piece>
     ensures { option_map piece_of result ≡ escapes_of edition in_bytes rest.now }
@@ -117,7 +119,7 @@ fn escape_of(rest: &[u8], in_bytes: bool, edition: u32) -> Option<Piece>
     }
 }
 
-// What stands at the byte `b` with the bytes behind it, inside quotes of the byte `quote`.
+/// What stands at the byte `b` with the bytes behind it, inside quotes of the byte `quote`.
 pub fn piece_at(b: u8, behind: &[u8], quote: u8, in_bytes: bool, edition: u32) -> Option<Piece>
     ensures { option_map piece_of result ≡ piece_at (escapes_of edition) in_bytes quote b behind.now }
 {

@@ -3,18 +3,23 @@ use crate::lent::Cells;
 use cases::{read_ids, write_bytes};
 use decoding::DecodeError;
 use memory::Memory;
-use std::io;
+use std::{fmt, io};
 
 // A decoding's answer.
-fn write_decoded(rt: &impl Print, decoded: Result<usize, DecodeError>) -> io::Result<()> {
-    match decoded {
-        Ok(len) => print!(rt; "{len}"),
-        Err(DecodeError::ShortMemory) => print!(rt; "refused 1"),
-        Err(DecodeError::Absent { len, index, id }) => {
-            print!(rt; "{len} refused 27 at {index} id {id}")
+#[derive(Drop)]
+struct Decoded(Result<usize, DecodeError>);
+
+impl fmt::Display for Decoded {
+    fn fmt<W: fmt::Write>(&self, f: &mut fmt::Formatter<W>) -> fmt::Result {
+        match self.0 {
+            Ok(len) => write!(f, "{len}"),
+            Err(DecodeError::ShortMemory) => write!(f, "refused 1"),
+            Err(DecodeError::Absent { len, index, id }) => {
+                write!(f, "{len} refused 27 at {index} id {id}")
+            }
+            Err(DecodeError::Full { len, index }) => write!(f, "{len} refused 28 at {index}"),
+            Err(DecodeError::NotUtf8 { len, offset }) => write!(f, "{len} refused 29 at {offset}"),
         }
-        Err(DecodeError::Full { len, index }) => print!(rt; "{len} refused 28 at {index}"),
-        Err(DecodeError::NotUtf8 { len, offset }) => print!(rt; "{len} refused 29 at {offset}"),
     }
 }
 
@@ -39,8 +44,7 @@ pub fn decode_case<F: FnOnce(Memory<'_>, &[u32], &mut [u8]) -> Result<usize, Dec
     let mut ids = vec![in alloc; 0; (spelled.len() / 3).min(16)]?;
     read_ids(spelled, &mut ids);
     let mut out = vec![in alloc; b'.'; usize::from(*room)]?;
-    let decoded = decode(cells.memory(), &ids, &mut out);
-    write_decoded(rt, decoded)?;
-    print!(rt; " ")?;
+    let decoded = Decoded(decode(cells.memory(), &ids, &mut out));
+    print!(rt; "{decoded} ")?;
     write_bytes(rt, &out)
 }

@@ -3,6 +3,7 @@ use memory::Memory;
 use std::alloc::{AllocError, Global};
 
 // The cells that are lent. `single` and roots play no part but in number 1.
+// Kept: as the cells of `replay`, with another part left out and other makers.
 #[derive(Drop)]
 pub struct Cells {
     single: Vec<i32>,

@@ -6,9 +6,11 @@
 #![tactic(auto)]
 
 use cases::{unhex, write_bytes};
-use line::Fields;
+use line::{Fields, Lines};
+use refusals::{LoadError, Refusal};
 use std::io;
 use std::io::Read;
+use texts::Refused;
 
 mod decode;
 mod lent;
@@ -23,15 +25,15 @@ fn literal_case(rt: &(impl AllocGlobal + Print), text: &[u8], edition: u32) -> i
             bytes.truncate(length);
             write_bytes(rt, &bytes)
         }
-        None => print!(rt; "refused 12"),
+        None => rt.print(Refused(LoadError::from(Refusal::BadLiteral))),
     }
 }
 
 // A number, or the refusal of one that is bad.
-fn number_case(rt: &impl Print, text: &[u8], limit: u64, refusal: u64) -> io::Result<()> {
-    match numbers::digits(text, limit) {
-        Some(v) => print!(rt; "{v}"),
-        None => print!(rt; "refused {refusal}"),
+fn number_case(rt: &impl Print, number: Result<u64, Refusal>) -> io::Result<()> {
+    match number {
+        Ok(v) => rt.print(v),
+        Err(refusal) => rt.print(Refused(LoadError::from(refusal))),
     }
 }
 
@@ -60,35 +62,20 @@ fn fields_case(rt: &impl Print, text: &[u8]) -> io::Result<()> {
             write_bytes(rt, literal)?;
             write_bytes(rt, length)
         }
-        Err(refusal) => {
-            let number = refusal.number();
-            print!(rt; "refused {number}")
-        }
+        Err(refusal) => rt.print(Refused(LoadError::from(refusal))),
     }
-}
-
-// Hands on each line of a text.
-fn each_line<F: FnMut(&[u8]) -> io::Result<()>>(text: &[u8], mut visit: F) -> io::Result<()>
-    requires { F.IsAlwaysCallable visit }
-{
-    let mut at = 0;
-    while let Some(line) = line::next_line(text, at) {
-        visit(line.bytes)?;
-        at = line.next;
-    }
-    Ok(())
 }
 
 // The answer of a case of any kind.
-// Kept: the letter of a case becomes a call here and nowhere else.
+// Kept: the letter of a case is read here and nowhere else; an enum of the kinds would be matched once to be made and once more.
 fn answer(rt: &(impl AllocGlobal + Print), kind: u8, bytes: &[u8]) -> io::Result<()> {
     match kind {
         b'L' => literal_case(rt, bytes, 1),
         b'M' => literal_case(rt, bytes, 2),
         b'F' => fields_case(rt, bytes),
-        b'T' => each_line(bytes, |line| write_bytes(rt, line)),
-        b'I' => number_case(rt, bytes, u64::from(u32::MAX), 6),
-        b'N' => number_case(rt, bytes, u64::MAX, 11),
+        b'T' => Lines::new(bytes).try_for_each(|line| write_bytes(rt, line)),
+        b'I' => number_case(rt, line::read_id(bytes).map(u64::from)),
+        b'N' => number_case(rt, line::read_length(bytes)),
         b'H' => digit_case(rt, bytes),
         b'U' => rt.print(runs::good(bytes)),
         b'S' => runs::runs_case(rt, bytes),
@@ -116,5 +103,5 @@ fn main(rt: HostRuntime) -> io::Result<()> {
     let mut input = Vec::new(rt.alloc());
     rt.reader().read_to_end(&mut input)?;
     input.truncate(65536);
-    each_line(&input, |case| one_case(&rt, case))
+    Lines::new(&input).try_for_each(|case| one_case(&rt, case))
 }

@@ -1,15 +1,19 @@
 // What a load refuses before any line of a text is read.
 use crate::lent::Cells;
 use refusals::{LoadError, Place};
-use std::io;
+use std::{fmt, io};
 
-// A refusal's number, and the offset that it carries.
-fn write_refusal(rt: &impl Print, error: LoadError) -> io::Result<()> {
-    let number = error.refusal.number();
-    print!(rt; "refused {number}")?;
-    match error.place {
-        Some(Place::Offset(at)) => print!(rt; " at {at}"),
-        _ => Ok(()),
+// A refusal, with its number and the offset that it carries.
+#[derive(Drop)]
+pub struct Refused(pub LoadError);
+
+impl fmt::Display for Refused {
+    fn fmt<W: fmt::Write>(&self, f: &mut fmt::Formatter<W>) -> fmt::Result {
+        let number = self.0.refusal.number();
+        match self.0.place {
+            Some(Place::Offset(at)) => write!(f, "refused {number} at {at}"),
+            _ => write!(f, "refused {number}"),
+        }
     }
 }
 
@@ -23,6 +27,6 @@ pub fn text_case(rt: &(impl AllocGlobal + Print), case: &[u8]) -> io::Result<()>
     let how = source::text_of(u32::from(*edition), true);
     match source::start_of(text, how, cells.memory()) {
         Ok(_) => print!(rt; "read on"),
-        Err(error) => write_refusal(rt, error),
+        Err(error) => rt.print(Refused(error)),
     }
 }

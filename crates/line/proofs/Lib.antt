@@ -1,5 +1,4 @@
--- Laws that the proofs of this crate cite, and for callers of `next_line` what a walk over a text by it gives.
+-- Laws that the proofs of this crate cite, and for callers of `lines` how many there are.
 pub mod Spaces
 pub mod LineTurns
-pub mod LinesLeft
 pub mod Cut

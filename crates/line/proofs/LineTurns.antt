@@ -1,15 +1,19 @@
--- One turn of the walk over a text, read from a place of it. Assumes nothing.
-use mathlib.Core.Path.{◌≡◌, refl, ap, ◌∙◌}
+-- The first of the lines of a text, by where its first LF stands, and how many lines there are. Assumes nothing.
+use mathlib.Core.Path.{◌≡◌, refl, ap, ap₂, ◌∙◌, sym}
+use mathlib.Core.Bool.{Bool, true, false, cond}
+use mathlib.Core.List.{List, [], ◌∷◌, ◌++◌}
 use Rattle.std.specs.Prelude.{None, Some}
-use mathlib.Core.List.{List, [], ◌∷◌}
+use Rattle.std.specs.List.{position}
 use Prim.Native.Nat.{ℕ, suc, ◌+◌, ◌-◌, ◌≤◌, ◌<◌}
+use native.Mathlib.Numerals.{add-one}
 use native.Mathlib.Omega.{arith}
-use lib.ListN.{length, get_or, take, drop, length-take, length-drop, drop_of_length-le}
-use lib.Seq.{take-take}
+use lib.ListN.{length, get_or, take, drop, length-take, length-drop, length-append}
+use lib.Seq.{take-take, take_all, drop-length}
+use lib.Dec.{eqb}
 use borrow.Author.Tests.{eq-eqb, ne_eqb, lt-ltb, le-ltb}
-use Rattle.line.specs.Answers.{line_at}
-use Rattle.spec.specs.Line.{cr, less_cr, with_lf}
-use Rattle.laws.specs.LineWalk.{before_lf, first_line, next_line, less_cr-le, less_cr-take}
+use Rattle.spec.specs.Line.{lf, cr, less_cr, with_lf, last_line, lines_after, lines}
+use Rattle.laws.specs.LineWalk.{before_lf, first_line, next_line, lines_next, less_cr-le, less_cr-take}
+use Rattle.line.proofs.Spaces.{lf-found, lf-none}
 
 -- ── A trailing CR ────────────────────────────────────────────────────
 
@@ -30,7 +34,13 @@ cr-none (b ∷ l) h = absurd (omega arith)
 -- what `less_cr` needs
 pub ruleset cr_cases = (cr-taken, cr-kept, cr-none)
 
--- ── The turn ─────────────────────────────────────────────────────────
+-- ── The first line ───────────────────────────────────────────────────
+
+-- the text has ended
+pub lines-none : (s : List ℕ) → length s ≡ 0 → lines s ≡ []
+unfolding lines lines_after
+lines-none [] h = refl
+lines-none (b ∷ s) h = absurd (omega arith)
 
 next_line-some : (s : List ℕ) → 0 < length s → next_line s ≡ Some (first_line (before_lf s) s)
 unfolding next_line
@@ -48,31 +58,48 @@ with_lf-take n s =
     ∙ take-take (length (with_lf (take n s))) (length (less_cr (take n s))) (take n s) m
     ∙ take-take (length (with_lf (take n s))) n s (omega arith)
 
--- the text has ended
-pub turn-none : (text : List ℕ) (from : ℕ) → length text ≤ from → None ≡ line_at text from (next_line (drop from text))
-unfolding next_line
-turn-none text from h = rw (drop_of_length-le text h)
-
-module _ (text : List ℕ) (from : ℕ) (inside : from < length text) where
-  abbrev rest : List ℕ
-  rest = drop from text
-
-  first-of-rest : next_line rest ≡ Some (first_line (before_lf rest) rest)
-  first-of-rest = let l = length-drop from text in next_line-some rest (omega arith)
-
+module _ (s : List ℕ) where
   -- an LF behind n bytes: up to two CR go
-  pub turn-line : (n : ℕ) → before_lf rest ≡ n → n < length rest → (bytes : List ℕ) → bytes ≡ with_lf (take n rest)
-      → Some (record { bytes = bytes; next = from + n + 1 }) ≡ line_at text from (next_line rest)
-  turn-line n e h bytes b =
-      let q : from + n + 1 ≡ from + suc n = omega arith in
-      rw (first-of-rest, e, lt-ltb n (length rest) h, q)
-      (ap (λ (l : List ℕ). Some (record { bytes = l; next = from + suc n })) (b ∙ with_lf-take n rest))
+  pub lines-lf : (n : ℕ) → Some n ≡ position (λ b. eqb b lf) s
+      → lines s ≡ with_lf (take n s) ∷ lines (take (length s - (n + 1)) (drop (n + 1) s))
+  lines-lf n e =
+      let f = lf-found s n e in
+      let b = f.1 in
+      lines_next s
+      ∙ rw (
+        next_line-some s (omega arith),
+        f.0,
+        lt-ltb n (length s) b,
+        add-one n,
+        take_all (length s - suc n) (drop (suc n) s) (omega (arith, length-drop (suc n) s)),
+      )
+      (ap (λ (l : List ℕ). l ∷ lines (drop (suc n) s)) (sym (with_lf-take n s)))
 
   -- no LF: one CR goes
-  pub turn_last : length rest ≤ before_lf rest → (bytes : List ℕ) → bytes ≡ less_cr rest
-      → Some (record { bytes = bytes; next = length text }) ≡ line_at text from (next_line rest)
-  turn_last h bytes b =
-      let l = length-drop from text in
-      let q : length text ≡ from + length rest = omega arith in
-      rw (first-of-rest, le-ltb (before_lf rest) (length rest) h, q)
-      (ap (λ (l : List ℕ). Some (record { bytes = l; next = from + length rest })) (b ∙ less_cr-take rest))
+  pub lines_last : 0 < length s → None ≡ position (λ b. eqb b lf) s → lines s ≡ less_cr s ∷ lines []
+  lines_last h e =
+      lines_next s
+      ∙ rw (next_line-some s h, le-ltb (before_lf s) (length s) (lf-none s e))
+      (ap₂ (λ (l r : List ℕ). l ∷ lines r) (sym (less_cr-take s)) (drop-length s))
+
+-- what a turn of the walk needs
+pub ruleset turns = (lines-none, lines-lf, lines_last)
+
+-- ── How many ─────────────────────────────────────────────────────────
+
+lines_after-few : (l s : List ℕ) → length (lines_after l s) ≤ length l + length s
+unfolding lines_after
+lines_after-few [] [] = omega arith
+lines_after-few (a ∷ l) [] = omega arith
+lines_after-few l (b ∷ s) = go (eqb b lf) (lines_after-few [] s) (lines_after-few (l ++ b ∷ []) s)
+  where
+    go : (c : Bool) → length (lines_after [] s) ≤ 0 + length s
+        → length (lines_after (l ++ b ∷ []) s) ≤ length (l ++ b ∷ []) + length s
+        → length (cond c (with_lf l ∷ lines_after [] s) (lines_after (l ++ b ∷ []) s)) ≤ length l + suc (length s)
+    go true h k = omega arith
+    go false h k = let e = length-append l (b ∷ []) in omega arith
+
+-- each line has a byte of the text
+pub lines_few : (s : List ℕ) → length (lines s) ≤ length s
+unfolding lines
+lines_few s = let h = lines_after-few [] s in omega arith

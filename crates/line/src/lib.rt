@@ -2,22 +2,15 @@
 // whoever reads a line takes them one by one, since refusals 7 to 10 stand between them.
 #![tactic(auto)]
 
-ghost use Rattle.std.specs.Prelude.{◌≡◌, ◌==◌, position, option_map, IfOk, drop};
+ghost use Rattle.std.specs.Prelude.{◌≡◌, ◌==◌, position, IfOk};
+ghost use Rattle.std.specs.Iterator.{YieldsFirstBy, item_count};
 ghost use Rattle.spec.specs.Check.{pass, given};
 ghost use Rattle.spec.specs.Digits.{digits};
-ghost use Rattle.spec.specs.Line.{less_cr, first_space, last_space, fields};
-ghost use Rattle.laws.specs.LineWalk.{next_line};
+ghost use Rattle.spec.specs.Line.{less_cr, lines, first_space, last_space, fields};
 ghost use Rattle.refusals.specs.Numbers.{checked};
-ghost use Rattle.line.specs.Answers.{told, line_at, fields_of, NoneEmpty};
+ghost use Rattle.line.specs.Answers.{lines_left, fields_of, NoneEmpty};
 
 use refusals::Refusal;
-
-/// A line of a text, and where in the text the next one starts.
-#[derive(Clone, Copy)]
-pub struct Line<'a> {
-    pub bytes: &'a [u8],
-    pub next: usize,
-}
 
 // The line without its last byte, if that is a CR.
 #[tactic(auto, using(crate::proofs::LineTurns::cr_cases))]
@@ -37,23 +30,44 @@ fn find(bytes: &[u8], byte: u8) -> Option<usize>
     bytes.iter().position(|&b| b == byte)
 }
 
-/// The line of `text` that starts at `from`, without its LF and the CR before that; none if the text ends there.
-pub fn next_line(text: &[u8], from: usize) -> Option<Line<'_>>
-    ensures { option_map told result ≡ line_at text.now from (next_line (drop from text.now)) }
-{
-    if text.len() <= from {
-        return None;
+/// The lines of a text, each without its LF and the CR before that.
+#[derive(Clone, Copy)]
+pub struct Lines<'a> {
+    rest: &'a [u8],
+}
+
+impl<'a> Lines<'a> {
+    pub fn new(text: &'a [u8]) -> Lines<'a>
+        ensures { lines_left result ≡ lines text.now }
+    {
+        Lines { rest: text }
     }
-    let rest = &text[from..];
-    match find(rest, b'\n') {
-        Some(lf) => Some(Line {
-            bytes: less_cr(less_cr(&rest[..lf])),
-            next: from + lf + 1,
-        }),
-        None => Some(Line {
-            bytes: less_cr(rest),
-            next: text.len(),
-        }),
+}
+
+impl<'a> Iterator for Lines<'a> {
+    type Item = &'a [u8];
+
+    ghost next_gives = { YieldsFirstBy (λ line. line.now) lines_left };
+
+    ghost remaining = { item_count lines_left };
+
+    #[tactic(auto, using(crate::proofs::LineTurns::turns))]
+    fn next(&mut self) -> Option<&'a [u8]> {
+        if self.rest.is_empty() {
+            return None;
+        }
+        match find(self.rest, b'\n') {
+            Some(lf) => {
+                let line = less_cr(less_cr(&self.rest[..lf]));
+                self.rest = &self.rest[lf + 1..];
+                Some(line)
+            }
+            None => {
+                let line = less_cr(self.rest);
+                self.rest = &[];
+                Some(line)
+            }
+        }
     }
 }
 
@@ -101,6 +115,7 @@ pub fn split_fields(line: &[u8]) -> Result<Fields<'_>, Refusal>
 }
 
 /// The id that the bytes before a line's first space state, or refusal 6.
+// Kept: with read_length: limit, refusal and width differ, so that one function of both would be `digits` with its own arguments.
 #[tactic(auto, using(laws::specs::LiteralLaws::digits_le), unfolding(spec::specs::Check::given))]
 pub fn read_id(part: &[u8]) -> Result<u32, Refusal>
     ensures { checked (λ v. v) result ≡ given 6 (digits 4294967295 part.now) pass }

@@ -1,9 +1,10 @@
 -- What a literal's reader leaves, from a place inside the quotes on; a law for each way a turn can go. Assumes nothing.
 use Rattle.std.proofs.Common.{◌≡◌, refl, sym, ap, ◌∙◌, subst, ℕ, zero, suc, ◌+◌, ◌-◌, ◌/◌, ◌%◌, ◌≤◌, ◌<◌, Bool, true, false, ◌&&◌, ◌||◌}
 use Rattle.std.proofs.Common.{cond, Option, None, Some, option_map, List, [], ◌∷◌, ◌++◌, length, take, drop, get_or, set, eqb, leb, ltb}
-use Rattle.std.proofs.Common.{add-zero, zero-add, le_refl, lit≤, lit<, arith, true≢false, le_of_eq, length-drop, length-append}
+use Rattle.std.proofs.Common.{add-zero, zero-add, le_refl, lit≤, lit<, arith, true≢false, length-drop, length-append}
 use Rattle.std.proofs.Common.{take-append-drop, take_all, length-take-le, eq-eqb, ne_eqb, le-leb}
 use Rattle.std.proofs.lemmas.Bool.{false≢true, lt-leb}
+use Rattle.std.proofs.lemmas.List.{take_rest}
 use Rattle.std.specs.Option.{option_or}
 use lib.Pointwise.{pointwise}
 use lib.Seq.{sets, sets-eq, length-sets, set_out}
@@ -18,12 +19,9 @@ use Rattle.spec.specs.Literal.{literal}
 use Rattle.literal.specs.Answers.{Left, left, stored}
 use Rattle.numbers.proofs.Numbers.{hex-long, octal-within, octal_three}
 
--- the part of a slice from n on is what is left of it
-part-from : (n : ℕ) (s : List ℕ) → take (length s - n) (drop n s) ≡ drop n s
-part-from n s = take_all (length s - n) (drop n s) (le_of_eq (length-drop n s))
-
+-- of what is left of a slice from n on
 pub part-length : (n : ℕ) (s : List ℕ) → length (take (length s - n) (drop n s)) ≡ length s - n
-part-length n s = rw part-from (length-drop n s)
+part-length n s = rw take_rest (length-drop n s)
 
 -- ── Stores ───────────────────────────────────────────────────────────
 
@@ -216,7 +214,7 @@ module _ (escapes : Escapes) (in_b : Bool) (quote : ℕ) where
           → left l' n' (from (take (length s - p.more) (drop p.more s))) ≡ left l n (from rest)
       unfolding inside
       goes-on p e l' cells n' count =
-          rw (cells, count, first, e, part-from, inside-drop s p.more) (sym (left-put l n p.bytes (from (drop p.more s))))
+          rw (cells, count, first, e, take_rest, inside-drop s p.more) (sym (left-put l n p.bytes (from (drop p.more s))))
 
     -- the end
     pub goes-end : (rest : List ℕ) → length rest ≡ 0 → left l n (from rest) ≡ record { cells = l; answer = Some n }

@@ -2,7 +2,7 @@
 // none is a bad literal. Any bytes may be given.
 #![tactic(auto)]
 
-ghost use Rattle.std.specs.Prelude.{◌≡◌, ◌+◌, ◌^◌, ◌<◌, length, set, option_map};
+ghost use Rattle.std.specs.Prelude.{◌≡◌, ◌+◌, ◌^◌, ◌<◌, length, option_map};
 ghost use Rattle.std.proofs.lemmas.List.Edits.{sets};
 ghost use Rattle.spec.specs.Literal.{escapes_of, inside, is_quote, quoted, read, literal};
 ghost use Rattle.spec.specs.Utf8.{utf8_of};
@@ -12,23 +12,15 @@ ghost use Rattle.literal.specs.Answers.{stored, ended, left};
 use characters::Encoded;
 use escapes::Piece;
 
-// `b` goes to the place `at`, if there is one.
-fn put(res: &mut [u8], at: usize, b: u8)
-    ensures { res.new ≡ set res.old at b }
-{
-    if at < res.len() {
-        res[at] = b;
-    }
-}
-
 // The UTF-8 of `point` goes to the places from `at` on, as far as there are any. The place behind it.
 fn put_point(res: &mut [u8], at: usize, point: u32) -> usize
     requires { at < 2 ^ 63 }
     ensures { (result ≡ at + length (utf8_of point)) × (res.new ≡ sets res.old at (utf8_of point)) }
 {
     let Encoded { bytes, len } = characters::encode(point);
+    // Kept: `put` says `set`, by which `sets` is defined; `res.iter_mut().skip(at).zip(..)` says a run of cells.
     for (i, &b) in bytes[..len].iter().enumerate() {
-        put(res, at + i, b);
+        copies::put(res, at + i, b);
     }
     at + len
 }
@@ -40,7 +32,7 @@ fn put_piece(res: &mut [u8], at: usize, piece: Piece) -> usize
 {
     match piece {
         Piece::Byte(b, _) => {
-            put(res, at, b);
+            copies::put(res, at, b);
             at + 1
         }
         Piece::Point(c, _) => put_point(res, at, c),
@@ -84,8 +76,8 @@ fn quoted(text: &[u8], in_bytes: bool, edition: u32, res: &mut [u8]) -> Option<u
     inside(inner, *quote, in_bytes, edition, res)
 }
 
-// The bytes that a Python literal stands for in an edition, written to `res` as far as they fit; how many there are, or that the
-// literal is bad. Of a bad literal the bytes before its first fault are written.
+/// The bytes that a Python literal stands for in an edition, written to `res` as far as they fit; how many there are, or that the
+/// literal is bad. Of a bad literal the bytes before its first fault are written.
 // Kept: no heap, and the length may pass what `res` holds, so that no part of it can stand for it.
 pub fn parse_python_literal_into(text: &[u8], edition: u32, res: &mut [u8]) -> Option<usize>
     ensures answer { result ≡ option_map length (literal edition text.now) }

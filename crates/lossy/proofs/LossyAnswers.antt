@@ -1,13 +1,16 @@
 -- The answers of lossy decoding: an absent id, a text that does not fit, the text. Assumes nothing.
 use mathlib.Core.Path.{◌≡◌, refl, ap, sym, ◌∙◌}
-use mathlib.Core.Bool.{true, false}
+use mathlib.Core.Bool.{Bool, true, false}
 use Rattle.std.specs.Prelude.{None, Some}
 use mathlib.Core.List.{List, [], ◌∷◌}
 use Prim.Native.Nat.{ℕ, zero, suc, ◌+◌, ◌≤◌, ◌<◌}
 use native.Mathlib.Omega.{arith}
 use native.Mathlib.Nat.{not-suc-le-zero, add-zero}
-use lib.ListN.{length, get_or}
-use borrow.Author.Tests.{le-leb, lt-leb}
+use Rattle.std.proofs.Math.Nat.{min-eq_left, min-eq_right}
+use Rattle.decoding.proofs.DecodePasses.{each_more}
+use lib.ListN.{length, take, get_or, length-append}
+use Rattle.std.specs.Prelude.{leb, min}
+use borrow.Author.Tests.{le-leb, lt-leb, leb-true, leb-false}
 use Rattle.spec.specs.Lists.{each, over}
 use Rattle.spec.specs.Utf8.{lossy}
 use Rattle.spec.specs.Answer.{Answer, whole}
@@ -18,7 +21,7 @@ use Rattle.std.specs.Prelude.{Ok, Err}
 use Rattle.decoding.specs.declared.DecodeError.{DecodeError}
 use Rattle.decoding.specs.declared.DecodeError.TheVariants.{ShortMemory, Full}
 use Rattle.decoding.specs.Answers.{answer_of, Answered}
-use Rattle.lossy.specs.Lossy.{AllPresent}
+use Rattle.lossy.specs.Lossy.{AllPresent, Summed}
 
 lossy-short : (m : Memory) (n : ℕ) (ids : List ℕ) → too_short m ≡ true → decode_lossy_on m n ids ≡ refused 1
 unfolding decode_lossy_on
@@ -98,3 +101,36 @@ module _ (m : Memory) (ids before : List ℕ) (n : ℕ) where
       lossy-answered-whole len after e fits w =
           rw (lossy-enough m n ids (sym h), first-none m ids 0 all, lossy-fits m n ids (omega arith))
           (record { answer = ap whole e; cells = w })
+
+-- ── the number of all bytes ──────────────────────────────────────────
+
+pub summed_none : (f : ℕ → List ℕ) → Summed (length (each f [])) 0
+unfolding each
+summed_none f = record { exact = λ h. refl; most = λ h. absurd (omega arith) }
+
+-- a sum that is less than the greatest number is exact
+pub summed-exact : (n total : ℕ) → Summed n total → total < 0xffffffffffffffff → total ≡ n
+summed-exact n total s h = go (leb n 0xffffffffffffffff) refl
+  where
+    go : (c : Bool) → leb n 0xffffffffffffffff ≡ c → total ≡ n
+    go true e = s.exact (leb-true n 0xffffffffffffffff e)
+    go false e = absurd (omega (arith, s.most (leb-false n 0xffffffffffffffff e)))
+
+-- one token more
+pub summed-more : (f : ℕ → List ℕ) (ids : List ℕ) (k total : ℕ) → k < length ids → Summed (length (each f (take k ids))) total
+    → Summed (length (each f (take (k + 1) ids))) (min (total + length (f (get_or ids k 0))) 0xffffffffffffffff)
+summed-more f ids k total h s =
+    let t = length (f (get_or ids k 0)) in
+    let n = length (each f (take k ids)) in
+    let e : length (each f (take (k + 1) ids)) ≡ n + t = ap length (each_more f ids k h) ∙ length-append (each f (take k ids)) _ in
+    rw e
+    (record {
+      exact = λ few. min-eq_left (omega (arith, s.exact (omega arith))) ∙ ap (λ (a : ℕ). a + t) (s.exact (omega arith));
+      most = λ many. min-eq_right (go (leb n 0xffffffffffffffff) refl many);
+    })
+  where
+    go : (c : Bool) → leb (length (each f (take k ids))) 0xffffffffffffffff ≡ c
+        → 0xffffffffffffffff < length (each f (take k ids)) + length (f (get_or ids k 0))
+        → 0xffffffffffffffff ≤ total + length (f (get_or ids k 0))
+    go true e many = omega (arith, s.exact (leb-true _ _ e))
+    go false e many = omega (arith, s.most (leb-false _ _ e))

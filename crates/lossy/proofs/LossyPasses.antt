@@ -1,14 +1,13 @@
 -- The steps of the passes of lossy decoding. Each says that what is left from here gives what was left from the start. Assumes nothing.
 use mathlib.Core.Path.{◌≡◌, refl, ap, sym, ◌∙◌}
-use mathlib.Core.List.{List, [], ◌∷◌, ◌++◌, append_assoc, append-nil}
+use mathlib.Core.List.{List, [], ◌∷◌, ◌++◌, append_assoc}
 use Rattle.std.specs.Prelude.{None}
 use Prim.Native.Nat.{ℕ, ◌+◌, ◌≤◌, ◌<◌}
 use native.Mathlib.Omega.{arith}
 use native.Mathlib.Numerals.{add-one}
-use native.Mathlib.Nat.{add-zero, zero-add}
-use lib.ListN.{length, take, drop, get_or, length-append, length-replicate, drop_of_length-le, take-append-drop}
-use lib.Seq.{paste, length-paste, drop-cons, take-length}
-use Rattle.spec.specs.Lists.{each, over}
+use lib.ListN.{length, drop, get_or, length-append, drop_of_length-le}
+use lib.Seq.{drop-cons}
+use Rattle.spec.specs.Lists.{each}
 use Rattle.spec.specs.Utf8.{lossy, first_bad}
 use Rattle.laws.specs.Utf8Laws.{is_none, well_formed_first}
 use Rattle.spec.specs.Memory.{Memory}
@@ -16,13 +15,11 @@ use Rattle.spec.specs.Decode.{lookup}
 use Rattle.reader.specs.Reader.{Turn, joined, run, push_of, finish_of}
 use Rattle.reader.proofs.ReaderLaws.{run-nil, run-append, well_formed_run, lossy-run}
 use Rattle.reader.specs.HeldBytes.{held_of, held_as, pushed_as}
-use Rattle.reader.proofs.HeldLaws.{pushed-held, pushed_room, padded-take}
-use Rattle.spec.specs.Memory.{padded}
+use Rattle.reader.proofs.HeldLaws.{pushed-held}
 use Rattle.reader.specs.declared.Held.{Held}
 use Rattle.reader.specs.declared.Pushed.{Pushed}
 use Rattle.lossy.specs.declared.Progress.{Progress}
-use Rattle.lossy.specs.Lossy.{put, Reads, AsTheyAre}
-use Rattle.std.proofs.lemmas.List.Edits.{paste-paste}
+use Rattle.lossy.specs.Lossy.{Reads, AsTheyAre}
 use Rattle.reader.specs.declared.Held.TheVariants.{Nothing}
 
 -- ── a token, byte by byte ────────────────────────────────────────────
@@ -81,77 +78,6 @@ module _ (h t : List ℕ) (n : ℕ) (held : Held) (len : ℕ) where
     -- what the byte brings is part of the whole
     pub along-room : len + r.len ≤ n + length (run h t).out
     along-room = omega (arith, a.len-left, split)
-
--- ── writing ──────────────────────────────────────────────────────────
-
-put-paste : (d : List ℕ) (at : ℕ) (x : List ℕ) → put d at x ≡ paste d at x (length x)
-put-paste d at x = rw (take-length x)
-
-pub put-none : (d : List ℕ) (at : ℕ) (x : List ℕ) → x ≡ [] → put d at x ≡ d
-put-none d at x e = rw (e, add-zero, append-nil) (take-append-drop at d)
-
--- two pieces one after the other
-pub put-more : (d : List ℕ) (at : ℕ) (x y : List ℕ) → at + length x ≤ length d → put d at (x ++ y) ≡ put (put d at x) (at + length x) y
-put-more d at x y h =
-    put-paste d at (x ++ y) ∙ ap (paste d at (x ++ y)) (length-append x y)
-    ∙ sym (paste-paste d at x y (length x) (length y) refl refl (omega arith))
-    ∙ ap (λ (e : List ℕ). paste e (at + length x) y (length y)) (sym (put-paste d at x))
-    ∙ sym (put-paste (put d at x) (at + length x) y)
-
-pub length-put : (d : List ℕ) (at : ℕ) (x : List ℕ) → at + length x ≤ length d → length (put d at x) ≡ length d
-length-put d at x h = ap length (put-paste d at x) ∙ length-paste d at x (length x) h (omega arith)
-
--- the front of an array that has the bytes x, and zeros after them
-pub array-front : (x bytes : List ℕ) (len n : ℕ) → bytes ≡ padded x n → len ≡ length x → take len bytes ≡ x
-array-front x bytes len n e l = rw (e, l, padded-take n x)
-
-pub pushed-size : (held : Held) (b : ℕ) (r : Pushed) → r ≡ pushed_as (push_of (held_of held) b) → length r.bytes ≡ 6
-pushed-size held b r p =
-    ap (λ (x : Pushed). length x.bytes) p
-    ∙ simp (length-append, length-replicate) (omega (arith, pushed_room held b))
-
--- the bytes t were to be read and their text written to before from n on; now it is s, and after
-pub record Writing (h t : List ℕ) (n : ℕ) (before : List ℕ) (held : Held) (len : ℕ) (s after : List ℕ) : Type 0 where
-  pub same : length after ≡ length before
-  pub fits : len + length (run (held_of held) s).out ≤ length after
-  pub text : put before n (run h t).out ≡ put after len (run (held_of held) s).out
-  pub along : Along h t n held len s
-
-pub writing_none : (held : Held) (len : ℕ) (t before : List ℕ) → len + length (run (held_of held) t).out ≤ length before
-    → Writing (held_of held) t len before held len t before
-writing_none held len t before f = record { same = refl; fits = f; text = refl; along = along_none held len t }
-
-module _ (h t : List ℕ) (n : ℕ) (before : List ℕ) (held : Held) (len : ℕ) (s after : List ℕ) (w : Writing h t n before held len s after)
-  where
-    -- at the end
-    pub writing-all : s ≡ [] → after ≡ put before n (run h t).out
-    writing-all e = sym (w.text ∙ put-none after len _ (ap (λ (l : List ℕ). (run (held_of held) l).out) e ∙ ap (λ (u : Turn). u.out)
-        (run-nil (held_of held))))
-
-    module _ (b : ℕ) (rest : List ℕ) (e : s ≡ b ∷ rest) (r : Pushed) (p : r ≡ pushed_as (push_of (held_of held) b)) where
-      -- what a byte brings fits
-      pub writing-room : len + r.len ≤ length after
-      writing-room = omega (arith, w.fits, split h t n held len b rest s e w.along r p)
-
-      -- one byte more
-      pub writing_more : (next : List ℕ)
-          → (len + length (take r.len r.bytes) ≤ length after → next ≡ put after len (take r.len r.bytes))
-          → Writing h t n before r.held (len + r.len) rest next
-      writing_more next c =
-          let x = (push_of (held_of held) b).out in
-          let l : r.len ≡ length x = pushed-len h t n held len b rest s e w.along r p in
-          let front : take r.len r.bytes ≡ x = array-front x r.bytes r.len 6 (ap (λ (y : Pushed). y.bytes) p) l in
-          let put-it : next ≡ put after len x =
-          c (omega (arith, writing-room, ap length front)) ∙ ap (put after len) front in
-          let size : length next ≡ length after = ap length put-it ∙ length-put after len x (omega (arith, writing-room)) in
-          let bytes : (run (held_of held) s).out ≡ x ++ (run (held_of r.held) rest).out =
-          ap (λ (u : Turn). u.out) (step h t n held len b rest s e w.along r p) in
-          record {
-            same = size ∙ w.same;
-            fits = omega (arith, w.fits, split h t n held len b rest s e w.along r p);
-            text = w.text ∙ rw (bytes, put-it, l) (put-more after len x (run (held_of r.held) rest).out (omega (arith, writing-room)));
-            along = along-more h t n held len b rest s e w.along r p;
-          }
 
 -- ── the text of ids ──────────────────────────────────────────────────
 
@@ -228,62 +154,6 @@ module _ (m : Memory) (ids : List ℕ) where
     pub size-last : (r : Pushed) → length ids ≤ k → r ≡ pushed_as (finish_of (held_of held)) → length (lossy (each (lookup m) ids)) ≡ n +
         r.len
     size-last r h p = omega (arith, ap length (text-last k held h), ap (λ (x : Pushed). x.len) p)
-
-  -- ── its writing
-
-  -- the text was to be written to before; now it is what is left of it, from n on, and after
-  pub record TextLeft (before : List ℕ) (k : ℕ) (held : Held) (n : ℕ) (after : List ℕ) : Type 0 where
-    pub same : length after ≡ length before
-    pub fits : n + length (left k held) ≤ length after
-    pub text : put before 0 (lossy (each (lookup m) ids)) ≡ put after n (left k held)
-
-  pub left-all : (before : List ℕ) (held : Held) → held ≡ held_as [] → length (lossy (each (lookup m) ids)) ≤ length before
-      → TextLeft before 0 held 0 before
-  left-all before held e h =
-      let t = text-first held e in
-      record { same = refl; fits = omega (arith, ap length t); text = ap (put before 0) t }
-
-  module _ (before : List ℕ) (k : ℕ) (held : Held) (n : ℕ) (after : List ℕ) (w : TextLeft before k held n after) where
-    pub left-room : k < length ids → n + length (run (held_of held) (lookup m (get_or ids k 0))).out ≤ length after
-    left-room h = omega (arith, w.fits, text-part k held h)
-
-    pub left-more : (p : Progress) (next : List ℕ) → k < length ids → Reads (held_of held) (lookup m (get_or ids k 0)) n p
-        → next ≡ put after n (run (held_of held) (lookup m (get_or ids k 0))).out → TextLeft before (k + 1) p.held p.len next
-    left-more p next h r c =
-        let x = (run (held_of held) (lookup m (get_or ids k 0))).out in
-        let t : left k held ≡ x ++ left (k + 1) p.held = text-next k held n p h r in
-        let s : length (left k held) ≡ length x + length (left (k + 1) p.held) = ap length t ∙ length-append x
-        (left (k + 1) p.held) in
-        let size : length next ≡ length after = ap length c ∙ length-put after n x (left-room h) in
-        record {
-          same = size ∙ w.same;
-          fits = omega (arith, w.fits, r.len);
-          text = w.text ∙ rw (t, c, r.len) (put-more after n x (left (k + 1) p.held) (left-room h));
-        }
-
-    module _ (r : Pushed) (h : length ids ≤ k) (p : r ≡ pushed_as (finish_of (held_of held))) where
-      pub last-room : n + r.len ≤ length after
-      last-room = omega (arith, w.fits, ap length (text-last k held h), ap (λ (x : Pushed). x.len) p)
-
-      pub left-none : (next : List ℕ)
-          → (n + length (take r.len r.bytes) ≤ length after → next ≡ put after n (take r.len r.bytes))
-          → next ≡ over (lossy (each (lookup m) ids)) before
-      left-none next c =
-          let x = (finish_of (held_of held)).out in
-          let l : r.len ≡ length x = ap (λ (y : Pushed). y.len) p in
-          let front : take r.len r.bytes ≡ x = array-front x r.bytes r.len 6 (ap (λ (y : Pushed). y.bytes) p) l in
-          c (omega (arith, last-room, ap length front)) ∙ ap (put after n) front
-          ∙ ap (put after n) (sym (text-last k held h)) ∙ sym w.text ∙ rw zero-add
-
-finish-few : (h : List ℕ) → length (finish_of h).out ≤ 6
-finish-few [] = omega arith
-finish-few (a ∷ h) = omega arith
-
-pub finish-size : (h : List ℕ) (r : Pushed) → r ≡ pushed_as (finish_of h) → (length r.bytes ≡ 6) × (r.len ≤ 6)
-finish-size h r p = (
-  ap (λ (x : Pushed). length x.bytes) p ∙ simp (length-append, length-replicate) (omega (arith, finish-few h)),
-  omega (arith, ap (λ (x : Pushed). x.len) p, finish-few h),
-)
 
 -- ── a token whose bytes stand as they are ────────────────────────────
 

@@ -2,3 +2,4 @@
 pub mod WalkBounds
 pub mod Walking
 pub mod Row
+pub mod Places

@@ -1,12 +1,13 @@
-// The longest match at a place of the input, on any vocabulary memory. Each public contract is an equation with a definition of `spec`;
-// a private function is lent only the parts of the memory that it reads, and its equation holds whatever the other parts are.
+// The longest match at a place of the input, given the bytes from there on, on any vocabulary memory. Each public contract is an equation
+// with a definition of `spec`; a private function is lent only the parts of the memory that it reads.
 #![tactic(auto)]
 
-ghost use Rattle.std.specs.Prelude.{◌≡◌, List, [], ◌∷◌, ℕ, ◌+◌, ◌≤◌, ◌<◌, ℤ, pos, length, drop, get_or};
+ghost use Rattle.std.specs.Prelude.{◌≡◌, List, [], ◌∷◌, ℕ, ◌+◌, ◌≤◌, ◌<◌, ℤ, pos, length, get_or};
 ghost use Rattle.spec.specs.Memory.{memory};
-ghost use Rattle.spec.specs.Match.{id_in, base_in, no_walk, onto, enter, walk_on, one, match_on, undecided_on};
+ghost use Rattle.spec.specs.Match as spec;
+ghost use Rattle.spec.specs.Match.{id_in, onto, enter, walk_on, one, match_on, undecided_on};
 ghost use Rattle.memory.specs.Lent.{cells_of};
-ghost use Rattle.matching.specs.Answers.{walk_of, trail_of, longest, match_of, child};
+ghost use Rattle.matching.specs.Answers.{walk_of, match_of, child};
 
 use memory::Memory;
 
@@ -17,7 +18,7 @@ pub struct Match {
     pub len: usize,
 }
 
-/// What a walk from a place of the input found: the last token passed, the bytes it used and the base it ended with.
+/// What a walk found: the last token passed, the bytes it used and the base it ended with.
 #[derive(Clone, Copy, Debug, PartialEq, Eq)]
 pub struct Walk {
     pub longest: Option<Match>,
@@ -25,50 +26,29 @@ pub struct Walk {
     pub base: u64,
 }
 
-// The same walk while it goes, by its words: the last one with an id, and the last. Its length counts only where there is an id.
-#[derive(Clone, Copy)]
-struct Trail {
-    best: u64,
-    len: usize,
-    used: usize,
-    word: u64,
-}
-
-// Nothing found, nothing used.
-const NOTHING: Trail = Trail {
-    best: 0,
-    len: 0,
+const NOTHING: Walk = Walk {
+    longest: None,
     used: 0,
-    word: 0,
+    base: 0,
 };
 
-impl Trail {
+impl Walk {
     // The walk after a word, by one more byte: every later terminal is a longer match.
-    fn onto(self, word: u64) -> Trail
+    fn onto(self, word: u64) -> Walk
         requires { self.used < 255 }
-        ensures { trail_of result ≡ onto (trail_of self) word (self.used + 1) }
+        ensures { (k : spec.Walk) → self ≡ walk_of k → result ≡ walk_of (onto k word (self.used + 1)) }
     {
         let used = self.used + 1;
-        if id_in(word) == 0 {
-            return Trail { used, word, ..self };
-        }
-        Trail {
-            best: word,
-            len: used,
-            used,
-            word,
-        }
-    }
-
-    // The last token passed.
-    fn longest(self) -> Option<Match>
-        ensures { result ≡ longest (trail_of self) }
-    {
-        let id = id_in(self.best);
+        let base = word >> 32;
+        let id = id_in(word);
         if id == 0 {
-            return None;
+            return Walk { used, base, ..self };
         }
-        Some(Match { id, len: self.len })
+        Walk {
+            longest: Some(Match { id, len: used }),
+            used,
+            base,
+        }
     }
 }
 
@@ -80,13 +60,13 @@ fn id_in(word: u64) -> u32
     ((word >> 8) % 65536) as u32
 }
 
-// The word that the byte leads to from a word. Bits 32 to 63 are the base.
-#[tactic(auto, unfolding(crate::specs::Answers::child, spec::specs::Match::base_in, spec::specs::Match::goes))]
-fn child_of(table: &[u64], word: u64, byte: u8) -> Option<u64>
-    ensures { result ≡ child table.now (base_in word) byte }
+// The word that the byte leads to from a base.
+#[tactic(auto, unfolding(crate::specs::Answers::child, spec::specs::Match::goes))]
+fn child_of(table: &[u64], base: u64, byte: u8) -> Option<u64>
+    ensures { result ≡ child table.now base byte }
 {
     let label = u64::from(byte);
-    let next = *table.get(((word >> 32) ^ label) as usize)?;
+    let next = *table.get((base ^ label) as usize)?;
     if next == 0 || next % 256 != label {
         return None;
     }
@@ -94,58 +74,50 @@ fn child_of(table: &[u64], word: u64, byte: u8) -> Option<u64>
 }
 
 // The walk from a root word over the bytes after the first two.
-fn enter(table: &[u64], root: u64, rest: &[u8]) -> Trail
+fn enter(table: &[u64], root: u64, rest: &[u8]) -> Walk
     requires { length rest.now ≤ 253 }
-    ensures { trail_of result ≡ enter table.now root rest.now }
+    ensures { result ≡ walk_of (enter table.now root rest.now) }
 {
     if root == 0 {
         return NOTHING;
     }
-    let mut trail = Trail {
-        best: root,
-        len: 2,
-        used: 2,
-        word: root,
-    };
-    if id_in(root) != 0 && root >> 32 == 0 {
-        return trail;
+    let first = Walk { used: 1, ..NOTHING };
+    let mut walk = first.onto(root);
+    if walk.longest.is_some() && walk.base == 0 {
+        return walk;
     }
     for &byte in rest {
-        let Some(word) = child_of(table, trail.word, byte) else {
-            return trail;
+        let Some(word) = child_of(table, walk.base, byte) else {
+            return walk;
         };
-        trail = trail.onto(word);
-        if word >> 32 == 0 {
-            return trail;
+        walk = walk.onto(word);
+        if walk.base == 0 {
+            return walk;
         }
     }
-    trail
+    walk
 }
 
-// The walk from the place i of the input, over at most 255 bytes.
-fn trail_at(roots: &[u64], table: &[u64], src: &[u8], i: usize) -> Trail
-    requires { (i < length src.now) × (65536 ≤ length roots.now) }
+// The walk over the bytes that are left, at most 255 of them.
+// Kept: lent two parts; handed the memory as walk_at is, an encoding takes 7% more instructions, a stream in long pieces 13%.
+fn walk_over(roots: &[u64], table: &[u64], rest: &[u8]) -> Walk
+    requires { 65536 ≤ length roots.now }
     ensures { (single : List ℤ) (offsets blob : List ℕ) →
-        trail_of result ≡ walk_on (memory single offsets blob roots.now table.now) (drop i src.now) }
+        result ≡ walk_of (walk_on (memory single offsets blob roots.now table.now) rest.now) }
 {
-    let [first, second, rest @ ..] = &src[i..] else {
+    let [first, second, more @ ..] = rest else {
         return NOTHING;
     };
     let root = roots[memory::root_index(*first, *second)];
-    enter(table, root, &rest[..rest.len().min(253)])
+    enter(table, root, &more[..more.len().min(253)])
 }
 
-/// The walk from the place `i` of the input.
-pub fn walk_at(memory: Memory, src: &[u8], i: usize) -> Walk
-    requires { (i < length src.now) × (65536 ≤ length memory.roots.now) }
-    ensures { result ≡ walk_of (walk_on (cells_of memory.entry) (drop i src.now)) }
+/// The walk over the bytes that are left, at most 255 of them.
+pub fn walk_at(memory: Memory, rest: &[u8]) -> Walk
+    requires { 65536 ≤ length memory.roots.now }
+    ensures { result ≡ walk_of (walk_on (cells_of memory.entry) rest.now) }
 {
-    let trail = trail_at(memory.roots, memory.table, src, i);
-    Walk {
-        longest: trail.longest(),
-        used: trail.used,
-        base: trail.word >> 32,
-    }
+    walk_over(memory.roots, memory.table, rest)
 }
 
 // The match of one byte: its entry in `single`, of which a negative one is none.
@@ -157,15 +129,14 @@ fn one_byte(single: &[i32], byte: u8) -> Option<Match>
     Some(Match { id, len: 1 })
 }
 
-/// The longest token at the place `i` of the input.
-// Kept: each function here asks for the parts that it reads; a memory known to be long enough would ask more of callers.
-pub fn match_at(memory: Memory, src: &[u8], i: usize) -> Option<Match>
-    requires { (i < length src.now) × (256 ≤ length memory.single.now) × (65536 ≤ length memory.roots.now) }
-    ensures { match_of result ≡ match_on (cells_of memory.entry) (drop i src.now) }
+/// The longest token that the bytes left begin with.
+// Kept: walk_at and row_open read no `single`, so that one type of long memory would ask more; so too in `runs` and `stream`.
+pub fn match_at(memory: Memory, rest: &[u8]) -> Option<Match>
+    requires { (1 ≤ length rest.now) × (256 ≤ length memory.single.now) × (65536 ≤ length memory.roots.now) }
+    ensures { match_of result ≡ match_on (cells_of memory.entry) rest.now }
 {
-    let trail = trail_at(memory.roots, memory.table, src, i);
-    let Some(found) = trail.longest() else {
-        return one_byte(memory.single, src[i]);
+    let Some(found) = walk_over(memory.roots, memory.table, rest).longest else {
+        return one_byte(memory.single, rest[0]);
     };
     Some(found)
 }

@@ -1,5 +1,5 @@
-// Vocabulary memory, lent as five slices: to be read, or to be filled by a load. Number 1, which every entry that is given it tests before
-// all else; the memory emptied; and the place of a root. Two of the slices, blob and table, may have any length.
+// Vocabulary memory, lent as five slices: to be read, or to be filled by a load. Whether it is too short, which is number 1; the memory
+// emptied; and the place of a root. Two of the slices, blob and table, may have any length.
 #![tactic(auto)]
 
 ghost use Rattle.std.specs.Prelude.{◌≡◌, false, ◌+◌, ◌*◌, ◌<◌, ◌≤◌, length};
@@ -17,22 +17,37 @@ pub struct Memory<'a> {
     pub table: &'a [u64],
 }
 
-impl Memory<'_> {
+impl<'a> Memory<'a> {
+    /// The memory of these five slices.
+    pub fn new(
+        single: &'a [i32],
+        offsets: &'a [u32],
+        blob: &'a [u8],
+        roots: &'a [u64],
+        table: &'a [u64],
+    ) -> Memory<'a>
+        ensures { cells_of result ≡ memory single.now offsets.now blob.now roots.now table.now }
+    {
+        Memory {
+            single,
+            offsets,
+            blob,
+            roots,
+            table,
+        }
+    }
+
     /// "`single`, offsets or roots too short", whatever blob and table are.
+    #[tactic(auto, using(std::proofs::lemmas::Bool::Decides::nat_tests), unfolding(spec::specs::Memory::too_short))]
     pub fn too_short(self) -> bool
         ensures { result ≡ too_short (cells_of self.entry) }
     {
-        if self.single.len() < 256 {
-            return true;
-        }
-        if self.offsets.len() < 65537 {
-            return true;
-        }
-        self.roots.len() < 65536
+        self.single.len() < 256 || self.offsets.len() < 65537 || self.roots.len() < 65536
     }
 }
 
 /// Vocabulary memory lent for a load.
+// Kept: a type for long enough memory has these slices and methods twice; tried round a MemoryMut, what a load leaves did not prove.
 #[derive(Drop)]
 pub struct MemoryMut<'a> {
     pub single: &'a mut [i32],
@@ -47,13 +62,13 @@ impl MemoryMut<'_> {
     pub fn as_memory(&self) -> Memory<'_>
         ensures { cells_of result ≡ cells_in self.now }
     {
-        Memory {
-            single: &*self.single,
-            offsets: &*self.offsets,
-            blob: &*self.blob,
-            roots: &*self.roots,
-            table: &*self.table,
-        }
+        Memory::new(
+            &*self.single,
+            &*self.offsets,
+            &*self.blob,
+            &*self.roots,
+            &*self.table,
+        )
     }
 
     /// "After 3 to 21 the vocabulary memory is emptied: `single` all −1, the rest 0."
@@ -73,6 +88,7 @@ impl MemoryMut<'_> {
 }
 
 // The same of the five slices. "Cells .. past these lengths are never touched".
+// Kept: tried in `empty` itself, where the proof of three fills of parts behind one `&mut` didn't close.
 fn empty_cells(
     single: &mut [i32],
     offsets: &mut [u32],

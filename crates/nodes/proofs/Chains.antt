@@ -1,6 +1,6 @@
 -- Chains of links, numbers of nodes, and what a search along a chain finds. For the proofs. Assumes nothing.
 use Rattle.std.proofs.Common.{◌≡◌, ℕ, zero, suc, ◌-◌, ◌<◌, ◌≤◌, true, false, cond, eqb, ◌⊎◌, List, [], ◌∷◌, ◌++◌, map, length, get_or}
-use Rattle.std.proofs.Common.{sym, refl, ap, ◌∙◌, subst, inl, inr, arith, eqb-true}
+use Rattle.std.proofs.Common.{sym, refl, ap, ap₂, ◌∙◌, subst, inl, inr, arith, eqb-true}
 use mathlib.Core.List.Memᴰ.{head as here}
 use mathlib.Core.List.Memᴰ.{tail as there}
 use mathlib.Core.List.{Memᴰ as Mem}
@@ -13,6 +13,7 @@ use mathlib.Core.List.Memᴰ.{eq_of_singleton as only}
 use mathlib.Core.List.Memᴰ.{cast as mem-cast}
 use mathlib.Core.List.Memᴰ.{map as mem-map}
 use mathlib.Core.List.Memᴰ.{of_map}
+use Rattle.std.proofs.lemmas.List.{length-map}
 use borrow.Author.Tests.{eqb-false}
 use Rattle.spec.specs.Lists.{same, has, Bytes}
 use Rattle.spec.specs.Trie.{labels}
@@ -46,6 +47,10 @@ snoc_view (x ∷ y ∷ l) = go (snoc_view (y ∷ l))
     go (inl e) = let z : ◌≡◌ {A = ℕ} 0 1 = cc in absurd (omega arith)
     go (inr r) = inr (x ∷ r.0, ap (λ (k : List ℕ). x ∷ k) r.1)
 
+pub map_same : {A B : Type 0} (f g : A → B) (l : List A) → ((x : A) → Mem x l → f x ≡ g x) → map f l ≡ map g l
+map_same f g [] h = refl
+map_same {B = B} f g (x ∷ l) h = ap₂ (λ (y : B) (r : List B). y ∷ r) (h x (here refl)) (map_same f g l (λ y m. h y (there m)))
+
 pub no_mem : {A : Type 0} (l : List A) → ((x : A) → Mem x l → ⊥) → l ≡ []
 no_mem [] h = refl
 no_mem (x ∷ l) h = absurd (h x (here refl))
@@ -56,10 +61,6 @@ snoc_mem {A} ps {q} {x} m = go (append_cases ps m)
     go : Mem x ps ⊎ Mem x (q ∷ []) → Mem x ps ⊎ (x ≡ q)
     go (inl n) = inl n
     go (inr n) = inr (only n)
-
-pub length-map : {A B : Type 0} (f : A → B) (l : List A) → length (map f l) ≡ length l
-length-map f [] = refl
-length-map f (x ∷ l) = ap suc (length-map f l)
 
 pub fresh-last : (l : List ℕ) (t x : ℕ) → Fresh (l ++ (t ∷ [])) → Mem x l → x ≡ t → ⊥
 fresh-last [] t x f m e = not-nil m
@@ -193,7 +194,7 @@ kid_lt ps p {c} m = let r = kid_of ps p m in subst (λ (x : ℕ). x < suc (lengt
 
 pub kids-length : (ps : List (List ℕ)) (p : List ℕ) → length (kids ps p) ≡ length (labels ps p)
 unfolding kids
-kids-length ps p = length-map (λ (l : ℕ). number ps (p ++ (l ∷ []))) (labels ps p)
+kids-length ps p = length-map (labels ps p) (λ (l : ℕ). number ps (p ++ (l ∷ [])))
 
 pub kids-short : (ps : List (List ℕ)) (p : List ℕ) → length (kids ps p) ≤ length ps
 kids-short ps p = let a = kids-length ps p in let b = labels-short ps p in omega arith

@@ -74,15 +74,6 @@ module _ (M : ℕ → Node) (made b : ℕ) where
   find-end zero c e = refl
   find-end (suc f) c e = yes_case _ _ (eq-eqb c 0 e)
 
-  pub find-out : (f c : ℕ) → made ≤ c → find M made b f c ≡ 0
-  unfolding find
-  find-out zero c h = refl
-  find-out (suc f) c h = go (eqb c 0)
-    where
-      go : (d : Bool) → cond d 0 (cond (leb made c) 0 (cond (eqb (M c).label b) c (find M made b f (M c).next))) ≡ 0
-      go true = refl
-      go false = yes_case _ _ (le-leb made c h)
-
   find-suc : (f c : ℕ) → (c ≡ 0 → ⊥) → c < made → find M made b (suc f) c ≡ cond (eqb (M c).label b) c (find M made b f (M c).next)
   unfolding find
   find-suc f c z h = no_case _ _ (ne_eqb c 0 z) ∙ no_case _ _ (lt-leb made c h)
@@ -99,11 +90,6 @@ module _ (M : ℕ → Node) (made b : ℕ) where
       ∙ no_case _ _ (ne_eqb (M c).label b (λ q. l (ap (λ (x : Node). x.label) e ∙ q)))
       ∙ ap (λ (x : Node). find M made b (f - 1) x.next) (sym e)
 
-  pub find-zero : (f c : ℕ) → f ≤ 0 → find M made b f c ≡ 0
-  unfolding find
-  find-zero zero c h = refl
-  find-zero (suc f) c h = absurd (omega arith)
-
   pub find-lt : (f c : ℕ) → 1 ≤ made → find M made b f c < made
   unfolding find
   find-lt zero c h = h
@@ -115,11 +101,6 @@ module _ (M : ℕ → Node) (made b : ℕ) where
       go false true q g r = h
       go false false q true r = leb-false made c q
       go false false q false r = r
-
-pub child-start : (m : Nodes) (made parent b : ℕ) (n : Node) → n ≡ see m parent
-    → find (see m) made b made n.head ≡ child_of m made parent b
-unfolding child_of
-child-start m made parent b n e = ap (λ (x : Node). find (see m) made b made x.head) e
 
 -- ---- link_last
 

@@ -3,6 +3,8 @@ pub mod Run
 pub mod Work
 pub mod Insertion
 pub mod Stands
+pub mod Links
+pub mod Walk
 pub mod Gather
 pub mod Buckets
 pub mod Queue

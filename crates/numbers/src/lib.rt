@@ -6,7 +6,7 @@ ghost use Rattle.std.specs.Prelude.{◌≡◌, ◌≤◌, ◌<◌, ◌^◌, IfSo
 ghost use Rattle.spec.specs.Digits.{digits, hex_digit, hex_run, octal_run};
 ghost use Rattle.numbers.specs.Answers.{octal_of};
 
-// The value of `text` in decimal digits, at most `limit`. Leading zeros are allowed, in any number.
+/// The value of `text` in decimal digits, at most `limit`. Leading zeros are allowed, in any number.
 #[tactic(auto, using(crate::proofs::Numbers::decimals))]
 pub fn digits(text: &[u8], limit: u64) -> Option<u64>
     ensures { result ≡ digits limit text.now }
@@ -28,9 +28,10 @@ pub fn digits(text: &[u8], limit: u64) -> Option<u64>
     Some(value)
 }
 
-// The value of one hexadecimal digit, by arithmetic on its code: the low four bits, and 9 more for a letter, whose code has a 64 in it.
-// The byte is a digit if it is the code of this value again, a letter taken in lower case, which is the bit 32. From 10 on the codes are
-// 39 further than `0` and the value: `a` to `f`.
+/// The value of one hexadecimal digit, by arithmetic on its code: the low four bits, and 9 more for a letter, whose code has a 64 in it.
+/// The byte is a digit if it is the code of this value again, a letter taken in lower case, which is the bit 32. From 10 on the codes are
+/// 39 further than `0` and the value: `a` to `f`.
+// Kept: document 02 (W-203) asks for arithmetic on the code, with no branch or match arm for each kind of digit.
 #[tactic(auto, using(crate::proofs::Numbers::by_code_lem))]
 pub fn hex_digit(b: u8) -> Option<u64>
     ensures value { result ≡ hex_digit b }
@@ -42,7 +43,7 @@ pub fn hex_digit(b: u8) -> Option<u64>
     (b | 32 * letter == code).then_some(u64::from(value))
 }
 
-// The value of `count` hexadecimal digits, at most eight, at the start of `text`.
+/// The value of `count` hexadecimal digits, at most eight, at the start of `text`.
 #[tactic(auto, using(crate::proofs::Numbers::hexes))]
 pub fn hex_run(text: &[u8], count: usize) -> Option<u64>
     requires { count ≤ 8 }
@@ -56,14 +57,14 @@ pub fn hex_run(text: &[u8], count: usize) -> Option<u64>
     Some(value)
 }
 
-// A number in octal digits, and how many digits it has.
+/// A number in octal digits, and how many digits it has.
 #[derive(Clone, Copy)]
 pub struct Octal {
     pub value: u32,
     pub count: usize,
 }
 
-// The octal digits at the start of `text`, as many as there are, but no more than `most`, which is at most three.
+/// The octal digits at the start of `text`, as many as there are, but no more than `most`, which is at most three.
 #[tactic(auto, using(crate::proofs::Numbers::octals))]
 pub fn octal_run(text: &[u8], most: usize) -> Octal
     requires { most ≤ 3 }

@@ -31,26 +31,27 @@ use Rattle.slots.specs.declared.Front.{Front}
 in_fours : (x y e : ℕ) → e * 64 ≡ min (256 * x) (256 * y) → e ≡ 4 * min x y
 in_fours x y e h = omega arith
 
-whole-blocks : (t u b end : ℕ) → end ≡ 4 * min (min (t / 256) (min (u / 4) (b / 4))) 16777215
-    → (U B : List ℕ) → length U ≡ u → length B ≡ b
-    → (end ≡ 0 → ⊥) → Bounds U B 4 end
-whole-blocks t u b end is U B eu eb z = record {
-  from_le = omega (arith, z);
-  blocks = omega arith;
-  some = omega (arith, z);
-  in-used = omega arith;
-  in-bases = omega arith;
-  small = omega arith;
-}
+whole-blocks : (t end : ℕ) (U B : List ℕ) → end ≡ 4 * min (min (t / 256) (min (length U / 4) (length B / 4))) 16777215 → (end ≡ 0 → ⊥)
+    → Bounds (take end U) (take end B) 4
+whole-blocks t end U B is z =
+    let lu : length (take end U) ≡ end = length-take-le end U (omega arith) in
+    let lb : length (take end B) ≡ end = length-take-le end B (omega arith) in
+    record { from_le = omega (arith, z); blocks = omega arith; as_many = lb ∙ sym lu; small = omega arith }
+
+-- the words that are lent
+module _ (t end : ℕ) (U B : List ℕ) (is : end * 64 ≡ min (table_room t (length U) (length B)) (256 * 16777215)) where
+  pub end_lent : length (take end U) * 64 ≡ min (table_room t (length U) (length B)) (256 * 16777215)
+  unfolding table_room
+  end_lent = ap (λ (n : ℕ). n * 64) (length-take-le end U (omega arith)) ∙ is
+
+  pub end-bounds : (end ≡ 0 → ⊥) → Bounds (take end U) (take end B) 4
+  unfolding table_room
+  end-bounds = whole-blocks t end U B (in_fours (min (t / 256) (min (length U / 4) (length B / 4))) 16777215 end is)
 
 module _ (t u b end : ℕ) (is : end * 64 ≡ min (table_room t u b) (256 * 16777215)) where
   end-zero : end ≡ 0 → table_room t u b ≡ 0
   unfolding table_room
   end-zero z = omega arith
-
-  pub end-bounds : (U B : List ℕ) → length U ≡ u → length B ≡ b → (end ≡ 0 → ⊥) → Bounds U B 4 end
-  unfolding table_room
-  end-bounds U B eu eb z = whole-blocks t u b end (in_fours (min (t / 256) (min (u / 4) (b / 4))) 16777215 end is) U B eu eb z
 
   -- more blocks than 2^24 - 1 are never needed
   end-past : (ts : List Token) → Valid ts → end * 64 < words (puts ts) → table_room t u b < table_words ts
@@ -118,10 +119,7 @@ roots_behind f rs rs' h e =
 
 -- ---- what the code answers
 
-pub few : (b : ℕ) {high end : ℕ} → high * 4 + 4 ≤ end → end * 64 ≡ min b (256 * 16777215) → high < 16777215
-few b h e = omega arith
-
-module _ (made end t u b : ℕ) (ee : end * 64 ≡ min (table_room t u b) (256 * 16777215)) (m : Nodes) (rs ta : List ℕ) where
+module _ (end t u b : ℕ) (ee : end * 64 ≡ min (table_room t u b) (256 * 16777215)) (made : ℕ) (m : Nodes) (rs ta : List ℕ) where
   -- what the code promises
   abbrev pub Answers : Option ℕ → List ℕ → List ℕ → Type 0
   Answers r rs' ta' =

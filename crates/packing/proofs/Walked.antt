@@ -195,11 +195,11 @@ begin-going L small nu nb nc end h = record {
   cursors = λ l s a b c. let z = zeros_at nc l in absurd (omega arith);
 }
 
-begin-zeros : (ts : List Token) → Valid ts → (m : Nodes) (first nu nb nc end : ℕ) → 4 ≤ end → Ordered ts m first
-    → Amid (nodes ts) (id_of ts) (puts ts) m (replicate nu 0) (replicate nb 0) (replicate nc 0) first (node_count ts)
-    (record { from = 4; high = 0 }) end
+pub begin : (ts : List Token) → Valid ts → {m : Nodes} {U B C : List ℕ} {first made end : ℕ} (nu nb nc : ℕ) → 4 ≤ end → Ordered ts m first
+    → U ≡ replicate nu 0 → B ≡ replicate nb 0 → C ≡ replicate nc 0 → made ≡ node_count ts
+    → Amid (nodes ts) (id_of ts) (puts ts) m U B C first made (record { from = 4; high = 0 }) end
 unfolding puts place node_count
-begin-zeros ts v m first nu nb nc end h Q = record {
+begin ts v {end = end} nu nb nc h Q eu eb ec em = rw (eu, eb, ec, em) record {
   xs = [];
   ahead = order (nodes ts);
   queue = Q;
@@ -208,21 +208,6 @@ begin-zeros ts v m first nu nb nc end h Q = record {
   left = refl;
   few = (let a = queue-short Q in omega arith);
 }
-
--- the beginning, as the code has it
-pub begin : (ts : List Token) → Valid ts → {m : Nodes} {U B C : List ℕ} {first made end : ℕ} (nu nb nc : ℕ) → 4 ≤ end → Ordered ts m first
-    → U ≡ replicate nu 0 → B ≡ replicate nb 0 → C ≡ replicate nc 0 → made ≡ node_count ts
-    → Amid (nodes ts) (id_of ts) (puts ts) m U B C first made (record { from = 4; high = 0 }) end
-begin ts v {m} {U} {B} {C} {first} {made} {end} nu nb nc h Q eu eb ec em =
-    subst (λ (x : List ℕ). Amid (nodes ts) (id_of ts) (puts ts) m x B C first made (record { from = 4; high = 0 }) end)
-    (sym eu)
-    (subst (λ (x : List ℕ). Amid (nodes ts) (id_of ts) (puts ts) m (replicate nu 0) x C first made
-    (record { from = 4; high = 0 }) end) (sym eb)
-    (subst (λ (x : List ℕ). Amid (nodes ts) (id_of ts) (puts ts) m (replicate nu 0) (replicate nb 0) x first made
-    (record { from = 4; high = 0 }) end) (sym ec)
-    (subst (λ (x : ℕ). Amid (nodes ts) (id_of ts) (puts ts) m (replicate nu 0) (replicate nb 0) (replicate nc 0) first x
-    (record { from = 4; high = 0 }) end) (sym em)
-    (begin-zeros ts v m first nu nb nc end h Q))))
 
 -- ---- the end
 

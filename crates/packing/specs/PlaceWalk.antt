@@ -44,7 +44,7 @@ Turned made node m U B C at end m' U' B' C' r =
 
 abbrev pub Turn : ℕ → ℕ → Nodes → Marks → Front → Nodes → Marks → Option Front → Type 0
 Turn made node m K at m' K' r =
-    Turned made node m K.used.now K.bases.now K.cursors.now at K.end m' K'.used.now K'.bases.now K'.cursors.now r
+    Turned made node m K.used.now K.bases.now K.cursors.now at (length K.used.now) m' K'.used.now K'.bases.now K'.cursors.now r
 
 -- the walk from the first node on
 abbrev pub WalkedFrom : ℕ → ℕ → Nodes → List ℕ → List ℕ → List ℕ → Front → ℕ → Nodes → Option Front → Type 0
@@ -53,4 +53,4 @@ WalkedFrom made first m U B C at end m' r =
     → Amid ps I goal m U B C first made at end → Ended ps I goal m' r end
 
 abbrev pub Walked : ℕ → ℕ → Nodes → Marks → Front → Nodes → Option Front → Type 0
-Walked made first m K at m' r = WalkedFrom made first m K.used.now K.bases.now K.cursors.now at K.end m' r
+Walked made first m K at m' r = WalkedFrom made first m K.used.now K.bases.now K.cursors.now at (length K.used.now) m' r

@@ -5,7 +5,7 @@ ghost use Rattle.laws.specs.Fill.{write};
 ghost use Rattle.nodes.specs.Run.{room, see};
 ghost use Rattle.words.specs.NodeWords.{child_writes, node_writes, root_word, root_words};
 
-use nodes::Node;
+use nodes::{Children, Node};
 
 /// The nodes that are made, node 0 counted, each with its base in its field tail.
 #[derive(Clone, Copy)]
@@ -21,17 +21,8 @@ impl Based<'_> {
         ensures { table.new
             ≡ fold write table.old (child_writes (see self.entry.nodes.now) self.entry.made base 256 head) }
     {
-        let mut c = head;
-        for _ in 0..256u32 {
-            if c == 0 {
-                return;
-            }
-            if self.made <= c {
-                return;
-            }
-            let n = self.nodes[c as usize];
-            words::put_child(table, base, n);
-            c = n.next;
+        for (_, child) in Children::new(&self.nodes[..self.made as usize], head, 256) {
+            words::put_child(table, base, child);
         }
     }
 
@@ -40,8 +31,10 @@ impl Based<'_> {
         ensures { table.new
             ≡ fold write table.old (node_writes (see self.entry.nodes.now) self.entry.made (self.entry.made - 1) 1) }
     {
-        for i in 1..self.made {
-            let n = self.nodes[i as usize];
+        let Some((_, nodes)) = self.nodes[..self.made as usize].split_first() else {
+            return;
+        };
+        for n in nodes {
             self.put_children(table, n.tail as usize, n.head);
         }
     }
@@ -50,13 +43,10 @@ impl Based<'_> {
     fn word_of_root(self, root: u64) -> u64
         ensures { result ≡ root_word (see self.entry.nodes.now) self.entry.made root }
     {
-        if root == 0 {
+        let Some(i) = nodes::link(root, self.made as usize) else {
             return 0;
-        }
-        if u64::from(self.made) <= root {
-            return 0;
-        }
-        words::root_word_of(self.nodes[root as usize])
+        };
+        words::root_word_of(self.nodes[i])
     }
 
     /// Each of the 65,536 roots becomes the word of its node.
@@ -65,8 +55,8 @@ impl Based<'_> {
         ensures { roots.new
             ≡ root_words (root_word (see self.entry.nodes.now) self.entry.made) roots.old }
     {
-        for i in 0..65536 {
-            roots[i] = self.word_of_root(roots[i]);
+        for root in &mut roots[..65536] {
+            *root = self.word_of_root(*root);
         }
     }
 }

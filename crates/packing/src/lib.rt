@@ -28,25 +28,25 @@ use slots::marks::Marks;
 
 // Places the node whose turn it is, by its labels, which go into the cells lent. Its base goes to its field tail, in place of the link to
 // the next node in order. None: no slot within the capacity.
-// Kept: the nodes and how many are made come one by one, as trie's functions take them, which are called here.
+// Kept: nodes and made, as `trie::gather` and `thread_all` take them; `Based` cannot be made before the last node is written.
 fn place_node(
     nodes: &mut [Node],
     made: u32,
     node: u32,
     marks: &mut Marks,
-    labels: &mut [u8],
+    labels: &mut [u8; 256],
     at: Front,
 ) -> Option<Front>
-    requires { (node < made) × (made ≤ room nodes.old) × Within at marks.old.end × (256 ≤ length labels.old) }
+    requires { (node < made) × (made ≤ room nodes.old) × Within at (length marks.old.used.now) }
     ensures stands { Turn made node nodes.old marks.old at nodes.new marks.new result }
-    ensures within { IfSome result (λ front. Within front marks.old.end) }
+    ensures within { IfSome result (λ front. Within front (length marks.old.used.now)) }
     ensures same { SameMarks marks.old marks.new }
 {
     let n = trie::gather(nodes, made, node, labels);
     let base = marks.place(&labels[..n], at.from)?;
     nodes[node as usize].tail = base as u32;
     let used = &mut *marks.used;
-    slots::passed(used, at, marks.end, Some(base))
+    slots::passed(used, at, Some(base))
 }
 
 // ---- all nodes
@@ -57,23 +57,20 @@ fn place_chain(
     made: u32,
     first: u32,
     marks: &mut Marks,
-    labels: &mut [u8],
+    labels: &mut [u8; 256],
     at: Front,
 ) -> Option<Front>
-    requires { (made ≤ room nodes.old) × Within at marks.old.end × (256 ≤ length labels.old) }
+    requires { (made ≤ room nodes.old) × Within at (length marks.old.used.now) }
     ensures stands { Walked made first nodes.old marks.old at nodes.new result }
-    ensures within { IfSome result (λ front. Within front marks.old.end) }
+    ensures within { IfSome result (λ front. Within front (length marks.old.used.now)) }
 {
     let mut node = first;
     let mut front = at;
     for _ in 0..made {
-        if node == 0 {
+        let Some(i) = nodes::link(u64::from(node), made as usize) else {
             return Some(front);
-        }
-        if made <= node {
-            return Some(front);
-        }
-        let next = nodes[node as usize].tail;
+        };
+        let next = nodes[i].tail;
         front = place_node(nodes, made, node, marks, labels, front)?;
         node = next;
     }
@@ -81,30 +78,21 @@ fn place_chain(
 }
 
 // Places every node with children, by falling child count, then rising number.
-fn place_all(
-    nodes: &mut [Node],
-    made: u32,
-    used: &mut [u64],
-    bases: &mut [u64],
-    end: usize,
-) -> Option<Front>
-    requires { (1 ≤ made) × (made ≤ room nodes.old) × Bounds used.old bases.old 4 end }
+fn place_all(nodes: &mut [Node], made: u32, used: &mut [u64], bases: &mut [u64]) -> Option<Front>
+    requires { (1 ≤ made) × (made ≤ room nodes.old) × Bounds used.old bases.old 4 }
     ensures stands { (ts : List Token) (rs : List ℕ) → Valid ts → Stands ts rs nodes.old → made ≡ node_count ts
-        → Ended (nodes_of ts) (id_of ts) (puts ts) nodes.new result end }
-    ensures within { IfSome result (λ front. Within front end) }
+        → Ended (nodes_of ts) (id_of ts) (puts ts) nodes.new result (length used.old) }
+    ensures within { IfSome result (λ front. Within front (length used.old)) }
 {
     used.fill(0);
     bases.fill(0);
-    let mut firsts = [0u32; 257];
-    let mut lasts = [0u32; 257];
-    let first = trie::thread_all(nodes, made, &mut firsts, &mut lasts);
+    let first = trie::thread_all(nodes, made);
     let mut cursors = [0u32; 256];
     let mut labels = [0u8; 256];
     let mut marks = Marks {
         used,
         bases,
         cursors: &mut cursors,
-        end,
     };
     let at = Front { from: 4, high: 0 };
     place_chain(nodes, made, first, &mut marks, &mut labels, at)
@@ -115,6 +103,8 @@ fn place_all(
 /// Packs the trie that roots and nodes stand for: the node numbers in the roots become words, and the table gets the layout's words with
 /// zeros after them; the answer is how many words the layout has. Nodes and marks are work memory; the marks may hold anything before.
 /// None: the table capacity is below the layout's words, and roots and table hold anything.
+// Kept: roots and table alone, the two parts that a packing writes; with the memory, three clauses more would say what stays.
+#[tactic(auto, unfolding(spec::specs::Load::table_room))]
 pub fn pack(work: &mut Work, made: u32, roots: &mut [u64], table: &mut [u64]) -> Option<u32>
     requires { (1 ≤ made) × (made ≤ room work.old.nodes.now) × (65536 ≤ length roots.old) }
     ensures stands { (ts : List Token) → Valid ts → Stands ts roots.old work.old.nodes.now → made ≡ node_count ts
@@ -128,7 +118,9 @@ pub fn pack(work: &mut Work, made: u32, roots: &mut [u64], table: &mut [u64]) ->
         return None;
     }
     let nodes = &mut *work.nodes;
-    let front = place_all(nodes, made, &mut *work.used, &mut *work.used_bases, end)?;
+    let used = &mut work.used[..end];
+    let bases = &mut work.used_bases[..end];
+    let front = place_all(nodes, made, used, bases)?;
     table.fill(0);
     let based = Based { nodes, made };
     based.put_words(table);

@@ -3,10 +3,11 @@ use mathlib.Core.Path.{◌≡◌, refl, ap, ◌∙◌, sym}
 use mathlib.Core.Bool.{Bool, true, false, cond}
 use Rattle.std.specs.Prelude.{Option, None, Some}
 use mathlib.Core.List.{List, [], ◌∷◌, ◌++◌, append_assoc, append-nil}
-use Prim.Native.Nat.{ℕ, zero, suc, ◌≤◌}
+use Prim.Native.Nat.{ℕ, suc, ◌≤◌}
+use native.Mathlib.Numerals.{add-one}
 use native.Mathlib.Omega.{arith}
-use lib.ListN.{length, take, drop, length-drop}
-use lib.Seq.{drop-append_seam, drop-length, append_snoc}
+use lib.ListN.{length, take, drop, length-drop, length-append}
+use lib.Seq.{drop-append_seam, drop-length, append_snoc, drop-drop, take-append-add, drop-append-add}
 use Rattle.spec.specs.Utf8.{Range, Rule, grammar, rule_for, within, after, bad, cut, follow, step_of, well_formed}
 use Rattle.laws.specs.Utf8Laws.{step_cons}
 use Rattle.laws.specs.Utf8Laws.{well-formed-char, well-formed-other, lossy-nil, lossy-char, lossy-other}
@@ -50,22 +51,16 @@ start_right b = go (after b) refl
 
 module _ {A : Type 0} where
   snoc-length : (h : List A) (b : A) → length (h ++ b ∷ []) ≡ suc (length h)
-  snoc-length [] b = refl
-  snoc-length (a ∷ h) b = ap suc (snoc-length h b)
+  snoc-length h b = length-append h (b ∷ []) ∙ add-one (length h)
 
   take_snoc : (h : List A) (b : A) (s : List A) → take (suc (length h)) (h ++ b ∷ s) ≡ h ++ b ∷ []
-  take_snoc [] b s = refl
-  take_snoc (a ∷ h) b s = ap (λ l. a ∷ l) (take_snoc h b s)
+  take_snoc h b s = rw (← add-one (length h)) (take-append-add h (b ∷ s) 1)
 
   drop-snoc : (h : List A) (b : A) (s : List A) → drop (suc (length h)) (h ++ b ∷ s) ≡ s
-  drop-snoc [] b s = refl
-  drop-snoc (a ∷ h) b s = drop-snoc h b s
+  drop-snoc h b s = rw (← add-one (length h)) (drop-append-add h (b ∷ s) 1)
 
   drop-next : (n : ℕ) (l : List A) (x : A) (xs : List A) → drop n l ≡ x ∷ xs → drop (suc n) l ≡ xs
-  drop-next zero [] x xs e = cc
-  drop-next zero (y ∷ l) x xs e = cc
-  drop-next (suc n) [] x xs e = cc
-  drop-next (suc n) (y ∷ l) x xs e = drop-next n l x xs e
+  drop-next n l x xs e = rw (← add-one n) (sym (drop-drop 1 n l) ∙ ap (drop 1) e)
 
 push_right : {h : List ℕ} (b : ℕ) → Begun h → Right h b (push_of h b)
 unfolding push_of wants follow
@@ -169,7 +164,7 @@ rule_few (r ∷ rs) f b = go (within r.first b) (rule_few rs f.1 b)
     go false k = k
 
 -- at most three bytes follow a first one
-after-few : (b : ℕ) → length (followers (after b)) ≤ 3
+pub after-few : (b : ℕ) → length (followers (after b)) ≤ 3
 unfolding after
 after-few b = rule_few grammar (omega arith) b
 

@@ -2,9 +2,8 @@
 // definition of specs/; that what goes out is the lossy text is `lossy-run` in proofs/ReaderLaws.antt.
 #![tactic(auto)]
 
-ghost use Rattle.std.specs.Prelude.{◌≡◌, [], ◌∷◌, ◌++◌, ◌-◌, ◌≤◌, replicate, length};
-ghost use Rattle.spec.specs.Utf8.{tail, replacement};
-ghost use Rattle.utf8.specs.Means.{lead_means};
+ghost use Rattle.std.specs.Prelude.{◌≡◌, [], ◌∷◌, ◌++◌, ◌≤◌, length};
+ghost use Rattle.spec.specs.Utf8.{replacement};
 ghost use Rattle.reader.specs.Reader.{start, broken, taken, wants, push_of, finish_of};
 ghost use Rattle.reader.specs.HeldBytes.{want_means, held_of, held_as, bringing, pushed_as};
 
@@ -20,7 +19,7 @@ pub enum Held {
 }
 
 /// What a byte brings: `len` bytes to write out, zeros after, and what is held from then on.
-// Kept: an array with a length beside it, since there is no heap and up to six bytes go out.
+// Kept: no heap, and a caller lends no room: the bytes, six at most, come by value, with how many there are.
 #[derive(Clone, Copy, Debug, PartialEq, Eq)]
 pub struct Pushed {
     pub bytes: [u8; 6],
@@ -51,6 +50,7 @@ fn replaced(held: Held) -> Pushed
 }
 
 // `b` where nothing is held.
+#[tactic(auto, unfolding(crate::specs::Reader::start))]
 fn alone(b: u8) -> Pushed
     ensures { result ≡ pushed_as (start b) }
 {
@@ -64,49 +64,34 @@ fn alone(b: u8) -> Pushed
     }
 }
 
-// `b` after held bytes that it breaks off.
+// `b` after held bytes that it breaks off: U+FFFD, then what `b` alone brings.
+#[tactic(auto, unfolding(crate::specs::Reader::start))]
 fn breaking(b: u8) -> Pushed
     ensures { result ≡ pushed_as (broken (start b)) }
 {
-    let Some(lead) = utf8::lead_of(b) else {
-        return Pushed {
-            bytes: [0xef, 0xbf, 0xbd, 0xef, 0xbf, 0xbd],
-            len: 6,
-            held: Held::Nothing,
-        };
-    };
-    if lead.more == 0 {
-        Pushed {
-            bytes: [0xef, 0xbf, 0xbd, b, 0, 0],
-            len: 4,
-            held: Held::Nothing,
-        }
-    } else {
-        replaced(Held::One(b))
-    }
-}
-
-// What is left to follow after `past` bytes behind the first.
-fn later(lead: Lead, past: usize) -> Lead
-    ensures { lead_means result ≡ replicate (lead.more - past) tail }
-{
-    Lead {
-        more: lead.more.saturating_sub(past),
-        low: 0x80,
-        high: 0xbf,
+    let Pushed {
+        bytes: [first, second, third, ..],
+        len,
+        held,
+    } = alone(b);
+    Pushed {
+        bytes: [0xef, 0xbf, 0xbd, first, second, third],
+        len: 3 + len,
+        held,
     }
 }
 
 impl Held {
     // What must follow the held bytes.
+    #[tactic(auto, unfolding(crate::specs::Reader::wants))]
     fn wanted(self) -> Option<Lead>
         ensures { want_means result ≡ wants (held_of self) }
     {
         match self {
             Held::Nothing => None,
             Held::One(a) => utf8::lead_of(a),
-            Held::Two(a, _) => Some(later(utf8::lead_of(a)?, 1)),
-            Held::Three(a, _, _) => Some(later(utf8::lead_of(a)?, 2)),
+            Held::Two(a, _) => Some(utf8::lead_of(a)?.behind()),
+            Held::Three(a, _, _) => Some(utf8::lead_of(a)?.behind().behind()),
         }
     }
 
@@ -142,6 +127,7 @@ impl Held {
     }
 
     /// `b` after the held bytes: what goes out, and what is held.
+    #[tactic(auto, using(crate::proofs::ReaderTurns::push_turns), unfolding(crate::specs::Reader::push_of))]
     pub fn push(self, b: u8) -> Pushed
         ensures { result ≡ pushed_as (push_of (held_of self) b) }
     {

@@ -1,4 +1,4 @@
--- Document 01's number of each refusal of a load, and what a reading that may be refused means. Assumes nothing.
+-- The documents' number of each refusal of a load, and what a reading that may be refused means. Assumes nothing.
 use Rattle.std.specs.Prelude.{ℕ, Result, Ok, Err}
 use Rattle.spec.specs.Check.{Check, pass, refuse}
 use Rattle.refusals.specs.declared.Refusal.{Refusal}

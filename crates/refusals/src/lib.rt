@@ -1,11 +1,11 @@
-// Document 01's refusals of a load, each with its number.
+// The documents' refusals of a load, each with its number and, where it carries one, its place.
 #![tactic(auto)]
 
 ghost use Rattle.std.specs.Prelude.{◌≡◌};
 ghost use Rattle.refusals.specs.Numbers.{number};
 ghost use Rattle.refusals.specs.Places.{NoPlace};
 
-/// Why a load is refused. "Each refusal has its number": the table of document 01.
+/// Why a load is refused. "Each refusal has its number": the table of document 01, and 34 of document 02.
 #[derive(Clone, Copy, Debug, PartialEq, Eq)]
 pub enum Refusal {
     ShortMemory = 1,
@@ -33,7 +33,7 @@ pub enum Refusal {
 }
 
 impl Refusal {
-    /// Document 01's number.
+    /// The documents' number.
     pub fn number(self) -> u8
         ensures { result ≡ number self }
     {

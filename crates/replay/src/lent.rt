@@ -10,24 +10,20 @@ pub enum Part {
     Roots,
 }
 
-// A byte that states no part.
-#[derive(Clone, Copy, Debug, PartialEq, Eq)]
-pub struct NoPart;
-
-impl TryFrom<u8> for Part {
-    type Error = NoPart;
-
-    fn try_from(byte: u8) -> Result<Part, NoPart> {
+impl Part {
+    // The part that a case's byte states, if it states one.
+    pub fn of(byte: u8) -> Option<Part> {
         match byte {
-            1 => Ok(Part::Single),
-            2 => Ok(Part::Offsets),
-            3 => Ok(Part::Roots),
-            _ => Err(NoPart),
+            1 => Some(Part::Single),
+            2 => Some(Part::Offsets),
+            3 => Some(Part::Roots),
+            _ => None,
         }
     }
 }
 
 // The cells.
+// Kept: each program fills a memory of its own and lacks another part; one type in `cases` would have the makers of all three.
 #[derive(Drop)]
 pub struct Cells {
     single: Vec<i32>,

@@ -14,11 +14,13 @@ mod load;
 
 use cases::{read_ids, unhex, write_bytes, write_ids};
 use lent::{Cells, Part};
+use line::Lines;
 use memory::{Memory, MemoryMut};
 use std::io;
 use std::io::Read;
 
 // The refusal's number, and the report.
+// Kept: what the linked calls answer, a number and a report, is printed and counted as it is.
 fn write_report(rt: &impl Print, number: u32, report: &[u64]) -> io::Result<()> {
     print!(rt; "{number}")?;
     for value in report {
@@ -41,7 +43,8 @@ fn encode_case(rt: &(impl AllocGlobal + Print), case: &[u8], memory: Memory) -> 
     let mut report = [0; 3];
     let number = rwkv_tokenizer::rwkv_encode(memory, src, &mut ids, &mut report);
     write_report(rt, number, &report)?;
-    write_ids(rt, &ids, report[0] as usize)?;
+    ids.truncate(report[0] as usize);
+    write_ids(rt, &ids)?;
     Ok(number)
 }
 
@@ -67,7 +70,7 @@ fn decode_case<F: FnOnce(Memory<'_>, &[u32], &mut [u8], &mut [u64; 3]) -> u32>(
 }
 
 // A case of any kind.
-// Kept: the letter of a case becomes a call here and nowhere else.
+// Kept: the letter of a case is read here and nowhere else; an enum of the kinds would be matched once to be made and once more.
 fn answer(
     rt: &(impl AllocGlobal + Print),
     kind: u8,
@@ -77,6 +80,7 @@ fn answer(
     match kind {
         b'L' => load::load_case(rt, case, &mut memory),
         b'E' => encode_case(rt, case, memory.as_memory()),
+        // Kept: tried without closures, and the check found no contract of a function that stands in a private module.
         b'D' => decode_case(rt, case, memory.as_memory(), |memory, ids, out, report| {
             rwkv_tokenizer::rwkv_decode(memory, ids, out, report)
         }),
@@ -97,7 +101,7 @@ fn one_case(rt: &(impl AllocGlobal + Print), case: &[u8], cells: &mut Cells) -> 
     let mut bytes = vec![in rt.alloc(); 0; (digits.len() / 2).min(8192)]?;
     unhex(digits, &mut bytes);
     let (short, rest) = first_of(&bytes);
-    let memory = cells.lend(Part::try_from(short).ok());
+    let memory = cells.lend(Part::of(short));
     let number = answer(rt, *kind, rest, memory)?;
     println!(rt)?;
     Ok(number)
@@ -117,11 +121,9 @@ fn all_cases(
     cells: &mut Cells,
 ) -> io::Result<[u64; 35]> {
     let mut counts = [0; 35];
-    let mut at = 0;
-    while let Some(line) = line::next_line(input, at) {
-        let number = one_case(rt, line.bytes, cells)?;
+    for case in Lines::new(input) {
+        let number = one_case(rt, case, cells)?;
         count(number, &mut counts);
-        at = line.next;
     }
     Ok(counts)
 }

@@ -1,4 +1,4 @@
-// The calls of the running encoder by value, each with its report.
+// The calls of the running encoder on a stream that is lent, each with its report.
 ghost use Rattle.std.specs.Prelude.{◌≡◌};
 ghost use Rattle.spec.specs.Stream as spec;
 ghost use Rattle.memory.specs.Lent.{cells_of};
@@ -37,45 +37,35 @@ impl From<Result<usize, StreamError>> for Answer {
     }
 }
 
-/// What a call by value leaves: its number and the stream.
-#[derive(Clone, Copy)]
-pub struct Left {
-    pub number: u32,
-    pub stream: Stream,
-}
-
-// The number of a call's answer, with its values in the report, and the stream.
-fn reported(called: Called, report: &mut [u64; 3]) -> Left
-    ensures { (result.number ≡ (answer_of called.answer).number) × (report.new ≡ report_of (answer_of called.answer))
-        × (result.stream ≡ called.stream) }
+// The number of a call's answer, with its values in the report; the stream is as the call leaves it.
+fn reported(called: Called, stream: &mut Stream, report: &mut [u64; 3]) -> u32
+    ensures { (result ≡ (answer_of called.answer).number) × (report.new ≡ report_of (answer_of called.answer))
+        × (stream.new ≡ called.stream) }
 {
-    let number = Answer::from(called.answer).report_to(report);
-    Left {
-        number,
-        stream: called.stream,
-    }
+    *stream = called.stream;
+    Answer::from(called.answer).report_to(report)
 }
 
-/// An add by value.
+/// An add to a stream that is lent, with its report.
 pub fn add(
     memory: Memory,
-    stream: Stream,
+    stream: &mut Stream,
     piece: &[u8],
     out: &mut [u32],
     report: &mut [u64; 3],
-) -> Left
-    ensures { Leaves (spec.call_on (cells_of memory.entry) (record_of stream) (spec.add piece.now out.old))
-        result.number report.new result.stream out.old out.new }
+) -> u32
+    ensures { Leaves (spec.call_on (cells_of memory.entry) (record_of stream.old) (spec.add piece.now out.old))
+        result report.new stream.new out.old out.new }
 {
-    let called = stream::add(memory, stream, piece, out);
-    reported(called, report)
+    let called = stream::add(memory, *stream, piece, out);
+    reported(called, stream, report)
 }
 
-/// An end by value.
-pub fn end(memory: Memory, stream: Stream, out: &mut [u32], report: &mut [u64; 3]) -> Left
-    ensures { Leaves (spec.call_on (cells_of memory.entry) (record_of stream) (spec.end out.old))
-        result.number report.new result.stream out.old out.new }
+/// An end of a stream that is lent, with its report.
+pub fn end(memory: Memory, stream: &mut Stream, out: &mut [u32], report: &mut [u64; 3]) -> u32
+    ensures { Leaves (spec.call_on (cells_of memory.entry) (record_of stream.old) (spec.end out.old))
+        result report.new stream.new out.old out.new }
 {
-    let called = stream::end(memory, stream, out);
-    reported(called, report)
+    let called = stream::end(memory, *stream, out);
+    reported(called, stream, report)
 }

@@ -1,4 +1,5 @@
-// What turns an answer into document 01's number and the cells of a report.
+// What turns an answer into the documents' number and the cells of a report; the running encoder on a
+// stream that is lent, with its report.
 #![tactic(auto)]
 
 pub mod decode;

@@ -3,7 +3,7 @@ ghost use Rattle.std.specs.Prelude.{◌≡◌};
 ghost use Rattle.spec.specs.Answer as spec;
 ghost use Rattle.reports.specs.Report.{answer_is, report_of};
 
-/// A number of document 01, 0 if none, and its values.
+/// A number of the documents, 0 if none, and its values.
 // Kept: the C interface answers a number, and its values in the cells of a report.
 #[derive(Clone, Copy, Debug, PartialEq, Eq)]
 pub struct Answer {

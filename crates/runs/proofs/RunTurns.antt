@@ -6,7 +6,9 @@ use Prim.Native.Nat.{ℕ, zero, suc, pred, ◌+◌, ◌≤◌, ◌<◌}
 use native.Mathlib.Omega.{arith}
 use native.Mathlib.Nat.{add-zero}
 use lib.ListN.{length, drop, get_or, set, length-append, length-drop}
-use lib.Seq.{sets, drop-drop, drop-cons}
+use lib.Seq.{drop-drop, drop-cons}
+use Rattle.spec.specs.Lists.{over}
+use Rattle.matching.proofs.WalkBounds.{match_within}
 use Rattle.spec.specs.Scan.{waiting, stuck, ran}
 use Rattle.spec.specs.Memory.{Memory}
 use Rattle.spec.specs.Match.{nothing, found, match_on, undecided_on}
@@ -55,52 +57,57 @@ module _ (m : Memory) (pos : ℕ) (S : List ℕ) (i : ℕ) (h : i < length S) wh
 
 -- ── The loop ─────────────────────────────────────────────────────────
 
--- where the loop stands: at the place i, with n cells of the output counted, out holding what was lent and the ids found
-pub record Stands (m : Memory) (src : List ℕ) (from stop start : ℕ) (lent out : List ℕ) (i n : ℕ) : Type 0 where
+-- where the loop stands: at the place i, with n cells of the output counted, which hold the ids found
+pub record Stands (m : Memory) (src : List ℕ) (stop : ℕ) (lent out : List ℕ) (i n : ℕ) : Type 0 where
   pub ids : List ℕ
-  pub written : out ≡ sets lent start ids
-  pub count : n ≡ start + length ids
-  pub few : from + length ids ≤ i
+  pub written : out ≡ over ids lent
+  pub count : n ≡ length ids
+  pub few : length ids ≤ i
   pub place : i ≤ length src
-  pub runs : Runs m src stop from (λ S pos. prepend ids (run_from m pos S i))
+  pub runs : Runs m src stop (λ S pos. prepend ids (run_from m pos S i))
 
-pub stands_first : (m : Memory) (src : List ℕ) (from stop start : ℕ) (lent : List ℕ) → from ≤ length src
-    → Stands m src from stop start lent lent from start
-stands_first m src from stop start lent h =
-    record { ids = []; written = refl; count = sym (add-zero start); few = omega arith; place = h; runs = λ S pos a. refl }
+pub stands_first : (m : Memory) (src : List ℕ) (stop : ℕ) (lent : List ℕ) → Stands m src stop lent lent 0 0
+stands_first m src stop lent = record {
+  ids = [];
+  written = refl;
+  count = refl;
+  few = omega arith;
+  place = omega arith;
+  runs = λ S pos a. ap (λ (p : ℕ). run_on m p 0 S) (sym (add-zero pos));
+}
 
-sets_snoc : (vs l : List ℕ) (at v : ℕ) → sets l at (vs ++ (v ∷ [])) ≡ set (sets l at vs) (at + length vs) v
-sets_snoc [] l at v = ap (λ (k : ℕ). set l k v) (sym (add-zero at))
-sets_snoc (w ∷ vs) l at v =
-    let e : suc at + length vs ≡ at + suc (length vs) = omega arith in
-    sets_snoc vs (set l at w) (suc at) v ∙ ap (λ (k : ℕ). set (sets (set l at w) (suc at) vs) k v) e
+-- one id more behind those written
+over_snoc : (ids lent : List ℕ) (v : ℕ) → length ids < length lent → set (over ids lent) (length ids) v ≡ over (ids ++ (v ∷ [])) lent
+over_snoc [] [] v h = absurd (omega arith)
+over_snoc [] (x ∷ l) v h = refl
+over_snoc (w ∷ ids) [] v h = absurd (omega arith)
+over_snoc (w ∷ ids) (x ∷ l) v h = ap (λ (r : List ℕ). w ∷ r) (over_snoc ids l v (omega arith))
 
-module _ (m : Memory) (src : List ℕ) (from stop start : ℕ) (lent out : List ℕ) (i n : ℕ) (w : Stands m src from stop start lent out i
-    n) where
+module _ {m : Memory} {src : List ℕ} {stop : ℕ} {lent out : List ℕ} {i n : ℕ} (w : Stands m src stop lent out i n) where
   module _ (h : i < stop) (long : stop ≤ length src) where
     -- a token is found: its id is written, and the loop goes on behind it
-    pub stands-next : (id len : ℕ) → undecided_on m (drop i src) ≡ false → match_on m (drop i src) ≡ found id len → 1 ≤ len
-        → len ≤ length (drop i src)
-        → Stands m src from stop start lent (set out n id) (i + len) (n + 1)
-    stands-next id len u e l k =
-        let c = w.count in
+    pub stands-next : length src ≤ length lent → (id len : ℕ) → undecided_on m (drop i src) ≡ false
+        → match_on m (drop i src) ≡ found id len
+        → Stands m src stop lent (set out n id) (i + len) (n + 1)
+    stands-next room id len u e =
+        let b = match_within m (drop i src) id len e in
         let d = length-append w.ids (id ∷ []) in
-        let f = w.few in
         let p = length-drop i src in
         record {
           ids = w.ids ++ (id ∷ []);
-          written = ap₂ (λ (o : List ℕ) (j : ℕ). set o j id) w.written c ∙ sym (sets_snoc w.ids lent start id);
-          count = omega arith;
-          few = omega arith;
-          place = omega arith;
+          written = ap₂ (λ (o : List ℕ) (j : ℕ). set o j id) w.written w.count ∙ over_snoc w.ids lent id (omega (arith, w.few));
+          count = omega (arith, w.count);
+          few = omega (arith, w.few, b.0);
+          place = omega (arith, b.1);
           runs = λ S pos a. let q = a.long in
               w.runs S pos a
-              ∙ ap (prepend w.ids) (from_some m pos S i (omega arith) id len (a.undecided i h ∙ u) (a.matched i h ∙ e) l (omega arith))
+              ∙ ap (prepend w.ids)
+              (from_some m pos S i (omega arith) id len (a.undecided i h ∙ u) (a.matched i h ∙ e) b.0 (omega (arith, b.1)))
               ∙ ap (λ (x : List ℕ). record { ids = x; stop = (run_from m pos S (i + len)).stop })
               (sym (append_assoc w.ids (id ∷ []) (run_from m pos S (i + len)).ids));
         }
 
-    pub ends-waiting : undecided_on m (drop i src) ≡ true → RunsTo m src from stop start lent out (Waiting i n)
+    pub ends-waiting : undecided_on m (drop i src) ≡ true → RunsTo m src stop lent out (Waiting i n)
     ends-waiting u = record {
       ids = w.ids;
       written = w.written;
@@ -116,7 +123,7 @@ module _ (m : Memory) (src : List ℕ) (from stop start : ℕ) (lent out : List 
     }
 
     pub ends_stuck : undecided_on m (drop i src) ≡ false → match_on m (drop i src) ≡ nothing
-        → RunsTo m src from stop start lent out (Stuck i n)
+        → RunsTo m src stop lent out (Stuck i n)
     ends_stuck u e = record {
       ids = w.ids;
       written = w.written;
@@ -130,5 +137,5 @@ module _ (m : Memory) (src : List ℕ) (from stop start : ℕ) (lent out : List 
       );
     }
 
-  pub ends_through : stop ≤ i → RunsTo m src from stop start lent out (Through i n)
+  pub ends_through : stop ≤ i → RunsTo m src stop lent out (Through i n)
   ends_through h = record { ids = w.ids; written = w.written; count = w.count; few = w.few; comes = (h, w.place, w.runs) }

@@ -1,6 +1,6 @@
 -- A run over a stretch of the input: what the contract of `run` cites. Assumes nothing.
 use Rattle.std.specs.Prelude.{◌≡◌, true, List, ◌++◌, ℕ, ◌+◌, ◌≤◌, ◌<◌, length, drop, get_or}
-use Rattle.std.proofs.lemmas.List.Edits.{sets}
+use Rattle.spec.specs.Lists.{over}
 use Rattle.spec.specs.Scan.{waiting, stuck, Run}
 use Rattle.spec.specs.Memory.{Memory}
 use Rattle.spec.specs.Match.{match_on, undecided_on}
@@ -23,19 +23,19 @@ pub record Alike (m : Memory) (src S : List ℕ) (stop : ℕ) : Type 0 where
 abbrev pub run_from : Memory → ℕ → List ℕ → ℕ → Run
 run_from m pos S i = run_on m (pos + i) 0 (drop i S)
 
--- the run of everything that looks like src, from `from` on, comes to e at the place `at`
-abbrev pub Runs : Memory → List ℕ → ℕ → ℕ → (List ℕ → ℕ → Run) → Type 0
-Runs m src stop from e = (S : List ℕ) (pos : ℕ) → Alike m src S stop → run_from m pos S from ≡ e S pos
+-- the run of everything that looks like src comes to e
+abbrev pub Runs : Memory → List ℕ → ℕ → (List ℕ → ℕ → Run) → Type 0
+Runs m src stop e = (S : List ℕ) (pos : ℕ) → Alike m src S stop → run_on m pos 0 S ≡ e S pos
 
 -- what the run has come to, with the ids that it wrote
-abbrev pub Comes : Memory → List ℕ → ℕ → ℕ → List ℕ → Ran → Type 0
-Comes m src from stop ids (Through at count) =
-    (stop ≤ at) × (at ≤ length src) × Runs m src stop from (λ S pos. prepend ids (run_from m pos S at))
-Comes m src from stop ids (Waiting at count) =
+abbrev pub Comes : Memory → List ℕ → ℕ → List ℕ → Ran → Type 0
+Comes m src stop ids (Through at count) =
+    (stop ≤ at) × (at ≤ length src) × Runs m src stop (λ S pos. prepend ids (run_from m pos S at))
+Comes m src stop ids (Waiting at count) =
     (at < stop) × (undecided_on m (drop at src) ≡ true)
-    × Runs m src stop from (λ S pos. record { ids = ids; stop = waiting (pos + at) (drop at S) })
-Comes m src from stop ids (Stuck at count) =
-    (at < stop) × Runs m src stop from (λ S pos. record { ids = ids; stop = stuck (pos + at) (get_or src at 0) })
+    × Runs m src stop (λ S pos. record { ids = ids; stop = waiting (pos + at) (drop at S) })
+Comes m src stop ids (Stuck at count) =
+    (at < stop) × Runs m src stop (λ S pos. record { ids = ids; stop = stuck (pos + at) (get_or src at 0) })
 
 abbrev pub place_of : Ran → ℕ
 place_of (Through at count) = at
@@ -47,10 +47,10 @@ count_of (Through at count) = count
 count_of (Waiting at count) = count
 count_of (Stuck at count) = count
 
--- what a run writes and answers
-pub record RunsTo (m : Memory) (src : List ℕ) (from stop start : ℕ) (lent out : List ℕ) (r : Ran) : Type 0 where
+-- what a run writes and answers: its ids from the output's start, with their count, no more of them than bytes passed
+pub record RunsTo (m : Memory) (src : List ℕ) (stop : ℕ) (lent out : List ℕ) (r : Ran) : Type 0 where
   pub ids : List ℕ
-  pub written : out ≡ sets lent start ids
-  pub count : count_of r ≡ start + length ids
-  pub few : from + length ids ≤ place_of r
-  pub comes : Comes m src from stop ids r
+  pub written : out ≡ over ids lent
+  pub count : count_of r ≡ length ids
+  pub few : length ids ≤ place_of r
+  pub comes : Comes m src stop ids r

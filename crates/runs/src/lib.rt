@@ -9,26 +9,26 @@ ghost use Rattle.runs.specs.Running.{RunsTo};
 
 use memory::Memory;
 
-// Whether later bytes may lengthen the token at the place i.
-fn undecided_at(memory: Memory, src: &[u8], i: usize) -> bool
-    requires { (i < length src.now) × (65536 ≤ length memory.roots.now) }
-    ensures { result ≡ undecided_on (cells_of memory.entry) (drop i src.now) }
+// Whether later bytes may lengthen the token that the bytes left begin with.
+fn undecided_at(memory: Memory, rest: &[u8]) -> bool
+    requires { (1 ≤ length rest.now) × (65536 ≤ length memory.roots.now) }
+    ensures { result ≡ undecided_on (cells_of memory.entry) rest.now }
 {
-    let rest = src.len() - i;
-    if 255 <= rest {
+    if 255 <= rest.len() {
         return false;
     }
-    if rest == 1 {
-        return matching::row_open(memory, src[i]);
+    if rest.len() == 1 {
+        return matching::row_open(memory, rest[0]);
     }
-    let walk = matching::walk_at(memory, src, i);
-    if walk.used != rest {
+    let walk = matching::walk_at(memory, rest);
+    if walk.used != rest.len() {
         return false;
     }
     walk.base != 0
 }
 
 /// How a run over a stretch ends: past it, at a place where it waits, or at one where no token matches; and the ids written.
+// Kept: `take_piece` does another thing at each of the three ends; a kind beside `at` and `count` would be matched the same.
 #[derive(Clone, Copy, Debug, PartialEq, Eq)]
 pub enum Ran {
     Through { at: usize, count: usize },
@@ -36,27 +36,21 @@ pub enum Ran {
     Stuck { at: usize, count: usize },
 }
 
-/// The ids of the places from `from` on and before `stop`, written from the output's cell `start` on. Bytes past `stop` are only looked at.
-pub fn run(
-    memory: Memory,
-    src: &[u8],
-    from: usize,
-    stop: usize,
-    out: &mut [u32],
-    start: usize,
-) -> Ran
-    requires { (from ≤ stop) × (stop ≤ length src.now) × (256 ≤ length memory.single.now) × (65536 ≤ length memory.roots.now)
-        × (start + (length src.now - from) ≤ length out.old) }
-    ensures { RunsTo (cells_of memory.entry) src.now from stop start out.old out.new result }
+/// The ids of the places before `stop`, written from the output's start. Bytes from `stop` on are only looked at.
+pub fn run(memory: Memory, src: &[u8], stop: usize, out: &mut [u32]) -> Ran
+    requires { (stop ≤ length src.now) × (256 ≤ length memory.single.now) × (65536 ≤ length memory.roots.now)
+        × (length src.now ≤ length out.old) }
+    ensures { RunsTo (cells_of memory.entry) src.now stop out.old out.new result }
 {
-    let mut at = from;
-    let mut count = start;
-    // Kept: each step is as long as its token, and an answer says its place; no plainer over the rest as a slice.
+    let mut at = 0;
+    let mut count = 0;
+    // Kept: an answer says its place in the stretch, which over the rest as a slice would be counted beside it.
     while at < stop {
-        if undecided_at(memory, src, at) {
+        let rest = &src[at..];
+        if undecided_at(memory, rest) {
             return Ran::Waiting { at, count };
         }
-        let Some(found) = matching::match_at(memory, src, at) else {
+        let Some(found) = matching::match_at(memory, rest) else {
             return Ran::Stuck { at, count };
         };
         out[count] = found.id;

@@ -1,4 +1,5 @@
 // Decoding: to bytes, to text, to lossy text.
+// Kept: these are the names that C links; each is one call, and the decoding, of its own contract, is all that differs.
 ghost use Rattle.std.specs.Prelude.{length};
 ghost use Rattle.memory.specs.Lent.{cells_of};
 ghost use Rattle.spec.specs.Decode.{decode_on, decode_text_on, decode_lossy_on};
@@ -7,7 +8,7 @@ ghost use Rattle.reports.specs.Report.{Reported};
 use memory::Memory;
 use reports::report::Answer;
 
-// The bytes of the ids, written from out's start.
+/// The bytes of the ids, written from out's start.
 pub fn rwkv_decode(memory: Memory, ids: &[u32], out: &mut [u8], report: &mut [u64; 3]) -> u32
     ensures { Reported (decode_on
         (cells_of memory.entry)
@@ -16,7 +17,7 @@ pub fn rwkv_decode(memory: Memory, ids: &[u32], out: &mut [u8], report: &mut [u6
     Answer::from(decoding::decode_bytes(memory, ids, out)).report_to(report)
 }
 
-// The same, and that the bytes are UTF-8.
+/// The same, and that the bytes are UTF-8.
 pub fn rwkv_decode_utf8(memory: Memory, ids: &[u32], out: &mut [u8], report: &mut [u64; 3]) -> u32
     ensures { Reported (decode_text_on
         (cells_of memory.entry)
@@ -25,7 +26,7 @@ pub fn rwkv_decode_utf8(memory: Memory, ids: &[u32], out: &mut [u8], report: &mu
     Answer::from(decoding::decode_utf8(memory, ids, out)).report_to(report)
 }
 
-// Lossy text.
+/// Lossy text.
 pub fn rwkv_decode_lossy(memory: Memory, ids: &[u32], out: &mut [u8], report: &mut [u64; 3]) -> u32
     ensures { Reported (decode_lossy_on
         (cells_of memory.entry)

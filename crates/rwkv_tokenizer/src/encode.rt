@@ -7,7 +7,7 @@ ghost use Rattle.reports.specs.Report.{Reported};
 use memory::Memory;
 use reports::report::Answer;
 
-// The ids of src, written from out's start. The report: count, offset, byte.
+/// The ids of src, written from out's start. The report: count, offset, byte.
 pub fn rwkv_encode(memory: Memory, src: &[u8], out: &mut [u32], report: &mut [u64; 3]) -> u32
     ensures { Reported (encode_on
         (cells_of memory.entry)

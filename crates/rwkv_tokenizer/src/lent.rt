@@ -8,7 +8,7 @@ ghost use Rattle.reports.specs.Leaves.{Leaves};
 use memory::Memory;
 use stream_record::Stream;
 
-// The next piece: the ids that it decides, written from out's start. The report: count, offset, byte.
+/// The next piece: the ids that it decides, written from out's start. The report: count, offset, byte.
 pub fn rwkv_add(
     memory: Memory,
     stream: &mut Stream,
@@ -21,24 +21,20 @@ pub fn rwkv_add(
         (record_of stream.old) (spec.add piece.now out.old))
         result report.new stream.new out.old out.new }
 {
-    let added = reports::lent::add(memory, *stream, piece, out, report);
-    *stream = added.stream;
-    added.number
+    reports::lent::add(memory, stream, piece, out, report)
 }
 
-// The end of the stream: the ids of the held bytes.
+/// The end of the stream: the ids of the held bytes.
 pub fn rwkv_end(memory: Memory, stream: &mut Stream, out: &mut [u32], report: &mut [u64; 3]) -> u32
     ensures { Leaves (spec.call_on
         (cells_of memory.entry)
         (record_of stream.old) (spec.end out.old))
         result report.new stream.new out.old out.new }
 {
-    let ended = reports::lent::end(memory, *stream, out, report);
-    *stream = ended.stream;
-    ended.number
+    reports::lent::end(memory, stream, out, report)
 }
 
-// A new stream.
+/// A new stream.
 pub fn rwkv_fresh(stream: &mut Stream)
     ensures { record_of stream.new ≡ spec.fresh }
 {

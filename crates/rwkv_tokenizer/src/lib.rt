@@ -1,4 +1,4 @@
-// The calls of the library, which `rwkv_tokenizer_c` exports to Rust and C programs. The result, but of `rwkv_fresh`, is document 01's
+// The calls of the library, which `rwkv_tokenizer_c` exports to Rust and C programs. The result, but of `rwkv_fresh`, is the documents'
 // number of the refusal, 0 if none; a report takes the values that it carries, and 0 for those that it does not.
 // Kept: the C interface: `rwkv_tokenizer_c` hands out these numbers and reports as they are.
 #![tactic(auto)]

@@ -9,10 +9,10 @@ ghost use Rattle.reports.specs.Report.{LoadReported};
 use memory::MemoryMut;
 use nodes::Work;
 
-// A vocabulary text of edition 1 or 2 into the memory, in partial or full mode; any other edition is refused with 34. The report: the kind
-// of the refusal's place (0 none, 1 line, 2 offset, 3 byte) and the place, or the counts of tokens, nodes, blob bytes and table words. The
-// offset, of number 2, is that of the text's first bad byte. What the work memory holds afterwards is anything, but after 34, 1 and 2 what
-// it held.
+/// A vocabulary text of edition 1 or 2 into the memory, in partial or full mode; any other edition is refused with 34. The report: the kind
+/// of the refusal's place (0 none, 1 line, 2 offset, 3 byte) and the place, or the counts of tokens, nodes, blob bytes and table words. The
+/// offset, of number 2, is that of the text's first bad byte. What the work memory holds afterwards is anything, but after 34, 1 and 2 what
+/// it held.
 pub fn rwkv_load(
     text: &[u8],
     edition: u32,

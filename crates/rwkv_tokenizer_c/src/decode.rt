@@ -22,13 +22,7 @@ pub extern "C" fn rwkv_decode(
         (memory single.now offsets.now blob.now roots.now table.now)
         (length out.old) ids.now) result report.new out.old out.new }
 {
-    let memory = Memory {
-        single,
-        offsets,
-        blob,
-        roots,
-        table,
-    };
+    let memory = Memory::new(single, offsets, blob, roots, table);
     rwkv_tokenizer::rwkv_decode(memory, ids, out, report)
 }
 
@@ -48,13 +42,7 @@ pub extern "C" fn rwkv_decode_utf8(
         (memory single.now offsets.now blob.now roots.now table.now)
         (length out.old) ids.now) result report.new out.old out.new }
 {
-    let memory = Memory {
-        single,
-        offsets,
-        blob,
-        roots,
-        table,
-    };
+    let memory = Memory::new(single, offsets, blob, roots, table);
     rwkv_tokenizer::rwkv_decode_utf8(memory, ids, out, report)
 }
 
@@ -74,12 +62,6 @@ pub extern "C" fn rwkv_decode_lossy(
         (memory single.now offsets.now blob.now roots.now table.now)
         (length out.old) ids.now) result report.new out.old out.new }
 {
-    let memory = Memory {
-        single,
-        offsets,
-        blob,
-        roots,
-        table,
-    };
+    let memory = Memory::new(single, offsets, blob, roots, table);
     rwkv_tokenizer::rwkv_decode_lossy(memory, ids, out, report)
 }

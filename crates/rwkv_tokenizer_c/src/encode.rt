@@ -22,12 +22,6 @@ pub extern "C" fn rwkv_encode(
         (memory single.now offsets.now blob.now roots.now table.now)
         (length out.old) src.now) result report.new out.old out.new }
 {
-    let memory = Memory {
-        single,
-        offsets,
-        blob,
-        roots,
-        table,
-    };
+    let memory = Memory::new(single, offsets, blob, roots, table);
     rwkv_tokenizer::rwkv_encode(memory, src, out, report)
 }

@@ -26,13 +26,7 @@ pub extern "C" fn rwkv_add(
         (record_of stream.old) (spec.add piece.now out.old))
         result report.new stream.new out.old out.new }
 {
-    let memory = Memory {
-        single,
-        offsets,
-        blob,
-        roots,
-        table,
-    };
+    let memory = Memory::new(single, offsets, blob, roots, table);
     rwkv_tokenizer::rwkv_add(memory, stream, piece, out, report)
 }
 
@@ -53,13 +47,7 @@ pub extern "C" fn rwkv_end(
         (record_of stream.old) (spec.end out.old))
         result report.new stream.new out.old out.new }
 {
-    let memory = Memory {
-        single,
-        offsets,
-        blob,
-        roots,
-        table,
-    };
+    let memory = Memory::new(single, offsets, blob, roots, table);
     rwkv_tokenizer::rwkv_end(memory, stream, out, report)
 }
 

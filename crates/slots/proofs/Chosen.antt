@@ -17,11 +17,11 @@ use Rattle.spec.specs.Layout.{Put, first_from, taken, free, words, top, first, c
 use Rattle.laws.specs.Tests.{or_r}
 use Rattle.laws.specs.Nodes.{ByteLabels}
 use Rattle.laws.specs.Xor.{xor_cancel, xor_block_of}
-use Rattle.laws.specs.First.{from_le, least}
+use Rattle.laws.specs.First.{from_le, from_most, least}
 use Rattle.laws.specs.Placed.{grows, taken_refused, choose-least}
 use Rattle.laws.specs.MarkLaws.{marked, mark}
 use Rattle.slots.specs.Marks.{slot_on, mark_all, Bounds, open_on, start_on}
-use Rattle.slots.proofs.Place.{first-get, from_top, chosen, slot-past, marks_then}
+use Rattle.slots.proofs.Place.{first-get, chosen, slot-past, marks_then}
 use Rattle.slots.proofs.Bitwise.{bit-of_ones}
 use Rattle.slots.proofs.Starts.{start-cases, start-in}
 use Rattle.slots.specs.Going.{MarksOk, CursorsOk, FrontOk, Going, PlacedPast}
@@ -84,59 +84,48 @@ module _ (L : List ℕ → List ℕ) where
 
   -- ---- one node more: its slot and its marks
 
-  -- a search for the slot of node p that begins at word `start`: all that lies before is refused
-  pub record Sought (xs : List Put) (p : List ℕ) (U B : List ℕ) (start end : ℕ) : Type 0 where
-    pub small : ByteLabels L
-    pub marks : MarksOk L xs U B end
-    pub low : 4 ≤ start
-    pub before : (s : ℕ) → 256 ≤ s → s < start * 64 → free L xs (L p) (bit_xor s (first (L p))) ≡ false
-
-  -- by its labels, as the code has them
-  module _ (xs : List Put) (p : List ℕ) (U B : List ℕ) (start end : ℕ) (S : Sought xs p U B start end) (bounds : Bounds U B start end)
-      (ls : List ℕ) (el : ls ≡ L p) (have : 1 ≤ length ls) where
+  -- the search begins at word `start`
+  module _ (xs : List Put) (p : List ℕ) (U B C : List ℕ) (from high : ℕ) (G : Going L xs U B C from high (length U))
+      (bounds : Bounds U B from) (have : 1 ≤ length (L p)) (start : ℕ) (begins : start ≡ start_on C (L p) from (length U)) where
     abbrev slot : ℕ
-    slot = slot_on U B start end (L p)
+    slot = slot_on U B start (length U) (L p)
 
     abbrev found : ℕ
     found = first_from (λ s. free L xs (L p) (bit_xor s (first (L p)))) (words xs - 256) 256
 
-    -- within the capacity
-    at-choice : slot < end * 64 → bit_xor slot (get_or (L p) 0 0) ≡ choose L xs (L p)
-    at-choice h = sym (chosen L S.small xs p U B end S.marks bounds.blocks bounds.in-used bounds.in-bases start
-        bounds.from_le S.low S.before h)
+    bounds-now : Bounds U B start
+    bounds-now = record {
+      from_le = (let h = (start-in C (L p) from (length U) bounds.from_le).1 in omega arith);
+      blocks = bounds.blocks;
+      as_many = bounds.as_many;
+      small = bounds.small;
+    }
 
-    marks-more : (b : ℕ) → slot < end * 64 → b ≡ bit_xor slot (get_or (L p) 0 0)
-        → MarksOk L (put L xs p) (mark_all b U (L p)) (mark B b) end
-    marks-more b h e = marks_then L S.small xs p U B end S.marks bounds.blocks bounds.in-used bounds.in-bases start
-        bounds.from_le S.low S.before b h e
+    low : 4 ≤ start
+    low = let a = G.front.low in let h = (start-in C (L p) from (length U) bounds.from_le).0 in omega arith
+
+    -- all that lies before is refused
+    before : (s : ℕ) → 256 ≤ s → s < start * 64 → free L xs (L p) (bit_xor s (first (L p))) ≡ false
+    before s a b = skipped G.small xs p have C from high (length U) G.front G.cursors s a (omega arith)
 
     -- past the capacity
-    past_end : end * 64 ≤ slot → end * 64 < words (put L xs p)
+    pub sought-past : length U * 64 ≤ slot → PlacedPast L xs p (length U) None
     unfolding words put top choose
-    past_end h =
-        let z = slot-past L S.small xs p U B end S.marks bounds.blocks bounds.in-used bounds.in-bases start
-        bounds.from_le S.low S.before h in
-        let q = xor_block_of found (first (L p)) (first-lt S.small xs p (subst (λ (k : List ℕ). 1 ≤ length k) el have)) in
+    sought-past h =
+        let z = slot-past L G.small xs p U B start G.marks bounds-now low before h in
+        let q = xor_block_of found (first (L p)) (first-lt G.small xs p have) in
         let four = bounds.blocks in
-        omega arith
+        record { answer = refl; past = omega arith }
 
-    -- by the slot s that was found
-    module _ (s : ℕ) (is : s ≡ slot_on U B start end ls) where
-      slot-now : s ≡ slot
-      slot-now = is ∙ ap (slot_on U B start end) el
-
-      pub sought-past : end * 64 ≤ s → PlacedPast L xs p end None
-      sought-past h = record { answer = refl; past = past_end (subst (λ (z : ℕ). end * 64 ≤ z) slot-now h) }
-
-      pub sought-at : (b : ℕ) (U' B' : List ℕ) → s < end * 64 → b ≡ bit_xor s (get_or ls 0 0) → U' ≡ mark_all b U ls → B' ≡ mark B b
-          → (b ≡ choose L xs (L p)) × MarksOk L (put L xs p) U' B' end
-      sought-at b U' B' h eb eu em =
-          let lt = subst (λ (z : ℕ). z < end * 64) slot-now h in
-          let e : b ≡ bit_xor slot (get_or (L p) 0 0) = eb ∙ ap₂ (λ (x : ℕ) (k : List ℕ). bit_xor x (get_or k 0 0)) slot-now el in (
-            e ∙ at-choice lt,
-            subst (λ (X : List ℕ). MarksOk L (put L xs p) X B' end) (sym (eu ∙ ap (mark_all b U) el))
-                (subst (λ (Y : List ℕ). MarksOk L (put L xs p) (mark_all b U (L p)) Y end) (sym em) (marks-more b lt e)),
-          )
+    -- within it, at slot s
+    pub sought-at : (s b : ℕ) (U' B' : List ℕ) → (s ≡ slot) × (s < length U * 64) → b ≡ bit_xor s (get_or (L p) 0 0)
+        → U' ≡ mark_all b U (L p) → B' ≡ mark B b → (b ≡ choose L xs (L p)) × MarksOk L (put L xs p) U' B' (length U)
+    sought-at s b U' B' is eb eu em =
+        let lt : slot < length U * 64 = omega arith in
+        let e : b ≡ bit_xor slot (get_or (L p) 0 0) = eb ∙ ap (λ (x : ℕ). bit_xor x (get_or (L p) 0 0)) is.0 in (
+          e ∙ sym (chosen L G.small xs p U B start G.marks bounds-now low before lt),
+          rw (eu, em) (marks_then L G.small xs p U B start G.marks bounds-now low before b lt e),
+        )
 
   -- ---- its cursor
 
@@ -180,18 +169,6 @@ module _ (L : List ℕ → List ℕ) where
             (ap (λ (z : List ℕ). free L xs z (bit_xor s (first (L p)))) (sym (alone-shape small xs p some one))
             ∙ choose-least L small xs p s a under))
 
-  -- ---- the step: the node is placed by `choose`, or its slot lies past the capacity
-
-  pub sought : (xs : List Put) (p : List ℕ) (U B C : List ℕ) (from high end : ℕ) → Going L xs U B C from high end → from ≤ end
-      → (ls : List ℕ) → ls ≡ L p → 1 ≤ length ls → (begin : ℕ) → begin ≡ start_on C ls from end → Sought xs p U B begin end
-  sought xs p U B C from high end G h ls el have begin eb =
-      subst (λ (z : ℕ). Sought xs p U B z end) (sym (eb ∙ ap (λ (k : List ℕ). start_on C k from end) el)) record {
-        small = G.small;
-        marks = G.marks;
-        low = (let a = G.front.low in let b = (start-in C (L p) from end h).0 in omega arith);
-        before = skipped G.small xs p (subst (λ (k : List ℕ). 1 ≤ length k) el have) C from high end G.front G.cursors;
-      }
-
   -- the first word that is not full, after a node more
   pub front-then : (xs : List Put) (p : List ℕ) (U B : List ℕ) (from high end b : ℕ) → FrontOk L xs from high end
       → MarksOk L (put L xs p) U B end → from ≤ end → end % 4 ≡ 0
@@ -208,7 +185,7 @@ module _ (L : List ℕ → List ℕ) where
       T i = not (eqb (get_or U i 0) 0xffffffffffffffff)
 
       top-le : first_from T (end - from) from ≤ end
-      top-le = let t = from_top T (end - from) from in omega arith
+      top-le = let t = from_most T (end - from) from in omega arith
 
       go : (s : ℕ) → 256 ≤ s → s < first_from T (end - from) from * 64 → (c : Bool) → ltb s (from * 64) ≡ c
           → taken L (record { node = p; base = choose L xs (L p) } ∷ xs) s ≡ true

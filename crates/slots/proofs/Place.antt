@@ -1,26 +1,23 @@
 -- Placing a node by words of marks is `put`: whatever word the search starts at, if what lies before it is refused. Assumes nothing.
 use mathlib.Core.Path.{◌≡◌, refl, sym, ap, ap₂, ◌∙◌, subst}
-use mathlib.Core.Logic.{◌⊎◌, inl, inr}
-use mathlib.Core.Bool.{Bool, true, false, not, ◌&&◌, ◌||◌, cond, or_assoc, or_comm, or-false}
+use mathlib.Core.Bool.{Bool, true, false, not, ◌&&◌, ◌||◌, or_assoc, or_comm, or-false}
 use mathlib.Core.List.Memᴰ.{head as here}
 use mathlib.Core.List.Memᴰ.{tail as there}
 use mathlib.Core.List.{List, [], ◌∷◌, map, Memᴰ as Mem}
 use Prim.Native.Nat.{ℕ, zero, suc, ◌+◌, ◌-◌, ◌*◌, ◌/◌, ◌%◌, ◌≤◌, ◌<◌}
 use native.Mathlib.Omega.{arith}
-use lib.Dec.{eqb, leb, ltb}
+use lib.Dec.{eqb}
 use lib.ListN.{length, get_or}
 use lib.Bits.{bit_xor}
-use borrow.Author.Tests.{leb-true, leb-false, ltb-true, ltb-false}
 use Rattle.spec.specs.Lists.{any, byte_in}
 use Rattle.spec.specs.Layout.{Put, first_from, used, taken, free, words, top, first, choose, put}
-use Rattle.laws.specs.Tests.{either, clash}
 use Rattle.laws.specs.Nodes.{ByteLabels}
 use Rattle.laws.specs.Xor.{xor_block_of}
-use Rattle.laws.specs.First.{first_passes, least, from_le, first-is}
+use Rattle.laws.specs.First.{first_passes, least, from_le, from_most, first-is}
 use Rattle.laws.specs.Placed.{above}
 use Rattle.laws.specs.MarkLaws.{marked, mark, mark-is}
 use Rattle.slots.specs.Going.{MarksOk}
-use Rattle.slots.specs.Marks.{bad_at, clash_at, slot_on, mark_all}
+use Rattle.slots.specs.Marks.{Bounds, bad_at, clash_at, slot_on, mark_all}
 use Rattle.slots.proofs.Find.{length-mark, slot_in}
 
 -- ---- the marks stand for what is placed
@@ -40,27 +37,14 @@ unfolding first
 first-get [] = refl
 first-get (l ∷ ls) = refl
 
-xor_below : (s l end : ℕ) → l < 256 → end % 4 ≡ 0 → s < end * 64 → bit_xor s l < end * 64
+-- a base lies in the block of its slot
+pub xor_below : (s l end : ℕ) → l < 256 → end % 4 ≡ 0 → s < end * 64 → bit_xor s l < end * 64
 xor_below s l end h e k = let q = xor_block_of s l h in omega arith
 
 pub passes : (f : ℕ → Bool) (n s : ℕ) → first_from f n s < s + n → f (first_from f n s) ≡ true
 unfolding first_from
 passes f zero s h = absurd (omega arith)
-passes f (suc n) s h = go (f s) refl h (λ k. passes f n (suc s) k)
-  where
-    go : (c : Bool) → f s ≡ c → cond c s (first_from f n (suc s)) < s + suc n
-        → (first_from f n (suc s) < suc s + n → f (first_from f n (suc s)) ≡ true) → f (cond c s (first_from f n (suc s))) ≡ true
-    go true e h r = e
-    go false e h r = r (omega arith)
-
-pub from_top : (f : ℕ → Bool) (n s : ℕ) → first_from f n s ≤ s + n
-unfolding first_from
-from_top f zero s = omega arith
-from_top f (suc n) s = go (f s) (from_top f n (suc s))
-  where
-    go : (c : Bool) → first_from f n (suc s) ≤ suc s + n → cond c s (first_from f n (suc s)) ≤ s + suc n
-    go true h = omega arith
-    go false h = omega arith
+passes f (suc n) s h = grind (arith, passes f n (suc s))
 
 mark-all_is : (base : ℕ) (ls M : List ℕ) (t : ℕ) → ((l : ℕ) → Mem l ls → l < 256) → base / 256 * 4 + 4 ≤ length M
     → marked (mark_all base M ls) t ≡ (marked M t || any (λ l. eqb t (bit_xor base l)) ls)
@@ -73,9 +57,11 @@ mark-all_is base (l ∷ ls) M t sm h =
     (mark-is M (bit_xor base l) t (slot_in base l (length M) (sm l (here refl)) h))
     ∙ or_assoc (marked M t) (eqb t (bit_xor base l)) (any (λ k. eqb t (bit_xor base k)) ls)
 
-module _ (L : List ℕ → List ℕ) (small : ByteLabels L) (xs : List Put) (p : List ℕ) (U B : List ℕ) (end : ℕ) (K : MarksOk L xs U B end)
-    (four : end % 4 ≡ 0)
-    (lu : end ≤ length U) (lb : end ≤ length B) (from : ℕ) (hf : from ≤ end) (f4 : 4 ≤ from) where
+module _ (L : List ℕ → List ℕ) (small : ByteLabels L) (xs : List Put) (p : List ℕ) (U B : List ℕ) (from : ℕ)
+    (K : MarksOk L xs U B (length U)) (bounds : Bounds U B from) (f4 : 4 ≤ from) where
+  abbrev end : ℕ
+  end = length U
+
   abbrev ls : List ℕ
   ls = L p
 
@@ -102,9 +88,9 @@ module _ (L : List ℕ → List ℕ) (small : ByteLabels L) (xs : List Put) (p :
   free-is : (s : ℕ) → s < end * 64 → not (bad_at U B ls s) ≡ F s
   unfolding bad_at clash_at free
   free-is s h =
-      let hb = xor_below s l1 end l1-small four h in
+      let hb = xor_below s l1 end l1-small bounds.blocks h in
       ap not (ap₂ ◌||◌ (K.bases (bit_xor s l1) hb)
-      (any_same _ _ ls (λ l m. K.slots (bit_xor (bit_xor s l1) l) (xor_below (bit_xor s l1) l end (small p l m) four hb))))
+      (any_same _ _ ls (λ l m. K.slots (bit_xor (bit_xor s l1) l) (xor_below (bit_xor s l1) l end (small p l m) bounds.blocks hb))))
       ∙ not-both (used xs (bit_xor s l1)) (any (λ l. taken L xs (bit_xor (bit_xor s l1) l)) ls)
       ∙ ap (λ (z : ℕ). not (used xs (bit_xor s z)) && not (any (λ l. taken L xs (bit_xor (bit_xor s z) l)) ls)) (sym (first-get ls))
 
@@ -112,15 +98,14 @@ module _ (L : List ℕ → List ℕ) (small : ByteLabels L) (xs : List Put) (p :
   module _ (skipped : (s : ℕ) → 256 ≤ s → s < from * 64 → F s ≡ false) where
     before : (s : ℕ) → 256 ≤ s → s < r → s < end * 64 → F s ≡ false
     unfolding slot_on
-    before s a b h = go (either (ltb s (from * 64)))
-      where
-        go : (ltb s (from * 64) ≡ true) ⊎ (ltb s (from * 64) ≡ false) → F s ≡ false
-        go (inl e) = skipped s a (ltb-true s (from * 64) e)
-        go (inr e) = sym (free-is s h) ∙ least (λ x. not (bad_at U B ls x)) ((end - from) * 64) (from * 64) s (ltb-false s (from * 64) e) b
+    before s a b h =
+        let e = free-is s h in
+        let l = least (λ x. not (bad_at U B ls x)) ((end - from) * 64) (from * 64) s in
+        grind (arith, skipped s a)
 
     r-le : r ≤ end * 64
     unfolding slot_on
-    r-le = let t = from_top (λ x. not (bad_at U B ls x)) ((end - from) * 64) (from * 64) in omega arith
+    r-le = let t = from_most (λ x. not (bad_at U B ls x)) ((end - from) * 64) (from * 64) in omega arith
 
     r-ge : from * 64 ≤ r
     unfolding slot_on
@@ -143,29 +128,20 @@ module _ (L : List ℕ → List ℕ) (small : ByteLabels L) (xs : List Put) (p :
         pass = unfold slot_on in passes (λ x. not (bad_at U B ls x)) ((end - from) * 64) (from * 64) (unfold slot_on in omega (arith, h))
 
         up : r ≤ words xs
-        up = go (either (leb r (words xs)))
-          where
-            go : (leb r (words xs) ≡ true) ⊎ (leb r (words xs) ≡ false) → r ≤ words xs
-            go (inl e) = leb-true r (words xs) e
-            go (inr e) = let q = leb-false r (words xs) e in absurd (clash past (before (words xs) words-ge q (omega arith)))
+        up = let p = past in let b = before (words xs) words-ge in grind arith
 
     -- none within the capacity: the slot that is wanted lies past it
     pub slot-past : end * 64 ≤ r → end * 64 ≤ first_from F (words xs - 256) 256
-    slot-past h = go (either (leb (end * 64) (first_from F (words xs - 256) 256)))
+    slot-past h =
+        let b = before z (from_le F (words xs - 256) 256) in
+        let p = first_passes F (words xs - 256) 256 hit in
+        grind arith
       where
         z : ℕ
         z = first_from F (words xs - 256) 256
 
         hit : F (256 + (words xs - 256)) ≡ true
         hit = let w = words-ge in let q : 256 + (words xs - 256) ≡ words xs = omega arith in ap F q ∙ past
-
-        go : (leb (end * 64) (first_from F (words xs - 256) 256) ≡ true) ⊎ (leb (end * 64) (first_from F (words xs - 256) 256) ≡ false)
-            → end * 64 ≤ first_from F (words xs - 256) 256
-        go (inl e) = leb-true (end * 64) (first_from F (words xs - 256) 256) e
-        go (inr e) =
-            let q = leb-false (end * 64) (first_from F (words xs - 256) 256) e in
-            absurd (clash (first_passes F (words xs - 256) 256 hit)
-            (before (first_from F (words xs - 256) 256) (from_le F (words xs - 256) 256) (omega arith) q))
 
     pub chosen : r < end * 64 → choose L xs ls ≡ bit_xor r l1
     unfolding choose
@@ -186,7 +162,7 @@ module _ (L : List ℕ → List ℕ) (small : ByteLabels L) (xs : List Put) (p :
         blk = ap (λ (z : ℕ). z / 256) e ∙ xor_block_of r l1 l1-small
 
         room : b / 256 * 4 + 4 ≤ length U
-        room = omega (arith, blk, h, lu, four)
+        room = omega (arith, blk, h, bounds.blocks)
 
         low : b / 64 < length B
-        low = omega (arith, blk, h, lb, four)
+        low = omega (arith, blk, h, bounds.blocks, bounds.as_many)

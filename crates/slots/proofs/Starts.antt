@@ -1,44 +1,22 @@
--- Where a search begins: what each branch of the code gives, as an equation of the definitions in Marks. Assumes nothing.
-use mathlib.Core.Path.{◌≡◌, refl, sym, ap, ◌∙◌, subst}
+-- Where a search begins, and the first word that is not full. Assumes nothing.
+use mathlib.Core.Path.{◌≡◌, refl, sym, ap, ◌∙◌}
 use mathlib.Core.Logic.{◌⊎◌, inl, inr}
 use mathlib.Core.Bool.{Bool, true, false, not, cond}
-use mathlib.Core.List.{List}
-use Prim.Native.Nat.{ℕ, ◌+◌, ◌-◌, ◌≤◌, ◌<◌}
+use mathlib.Core.List.{List, [], ◌∷◌}
+use Prim.Native.Nat.{ℕ, suc, ◌+◌, ◌≤◌, ◌<◌}
 use native.Mathlib.Omega.{arith}
 use lib.Dec.{eqb, leb, ltb}
-use lib.ListN.{length, get_or}
-use borrow.Author.Tests.{eq-eqb, ne_eqb, eqb-true, eqb-false, le-leb, lt-leb, lt-ltb, le-ltb, leb-true, ltb-true}
-use Rattle.laws.specs.Tests.{yes_case, no_case}
-use Rattle.laws.specs.First.{first-is}
+use lib.ListN.{length, get_or, drop, length-drop}
+use lib.Seq.{get_or-drop}
+use borrow.Author.Tests.{eqb-true, leb-true, ltb-true}
+use Rattle.std.specs.Prelude.{Option}
+use Rattle.std.specs.Option.{unwrap_or}
+use Rattle.std.specs.List.{position, position_or_len}
+use Rattle.spec.specs.Layout.{first_from}
+use Rattle.laws.specs.First.{from_most}
 use Rattle.slots.specs.Marks.{open_on, start_on}
-use Rattle.slots.proofs.Find.{miss}
 
 -- ---- where a search begins
-
-module _ (C ls : List ℕ) (from end : ℕ) where
-  pub start-more : (length ls ≡ 1 → ⊥) → from ≡ start_on C ls from end
-  unfolding start_on
-  start-more h = sym (no_case _ _ (ne_eqb (length ls) 1 h))
-
-  module _ (one : length ls ≡ 1) (k : ℕ) (is : k ≡ get_or C (get_or ls 0 0) 0) where
-    pub start-low : k ≤ from → from ≡ start_on C ls from end
-    unfolding start_on
-    start-low h = sym (yes_case _ _ (eq-eqb (length ls) 1 one)
-        ∙ no_case _ _ (le-ltb from (get_or C (get_or ls 0 0) 0) (subst (λ (z : ℕ). z ≤ from) is h)))
-
-    pub start-out : from < k → end < k → from ≡ start_on C ls from end
-    unfolding start_on
-    start-out h g =
-        sym (yes_case _ _ (eq-eqb (length ls) 1 one)
-        ∙ yes_case _ _ (lt-ltb from (get_or C (get_or ls 0 0) 0) (subst (λ (z : ℕ). from < z) is h))
-        ∙ no_case _ _ (lt-leb (get_or C (get_or ls 0 0) 0) end (subst (λ (z : ℕ). end < z) is g)))
-
-    pub start-far : from < k → k ≤ end → k ≡ start_on C ls from end
-    unfolding start_on
-    start-far h g =
-        is ∙ sym (yes_case _ _ (eq-eqb (length ls) 1 one)
-        ∙ yes_case _ _ (lt-ltb from (get_or C (get_or ls 0 0) 0) (subst (λ (z : ℕ). from < z) is h))
-        ∙ yes_case _ _ (le-leb (get_or C (get_or ls 0 0) 0) end (subst (λ (z : ℕ). z ≤ end) is g)))
 
 pub start-cases : (C ls : List ℕ) (from end : ℕ)
     → (start_on C ls from end ≡ from)
@@ -59,36 +37,38 @@ start-cases C ls from end = go (eqb (length ls) 1) refl (ltb from k) refl (leb k
     go true ea true eb true ed = inr (eqb-true (length ls) 1 ea, refl, ltb-true from k eb, leb-true k end ed)
 
 pub start-in : (C ls : List ℕ) (from end : ℕ) → from ≤ end → (from ≤ start_on C ls from end) × (start_on C ls from end ≤ end)
-start-in C ls from end h = go (start-cases C ls from end)
-  where
-    go : (start_on C ls from end ≡ from)
-        ⊎ ((length ls ≡ 1) × (start_on C ls from end ≡ get_or C (get_or ls 0 0) 0) × (from < get_or C (get_or ls 0 0) 0)
-        × (get_or C (get_or ls 0 0) 0 ≤ end))
-        → (from ≤ start_on C ls from end) × (start_on C ls from end ≤ end)
-    go (inl e) = (omega arith, omega arith)
-    go (inr e) = let a = e.1 in let b = e.2 in let d = e.3 in (omega arith, omega arith)
+unfolding start_on
+start-in C ls from end h = (grind arith, grind arith)
 
 -- ---- the first word that is not full
 
-module _ (U : List ℕ) (from end i : ℕ) (a : from ≤ i) (b : i ≤ end)
-    (full : (t : ℕ) → from ≤ t → t < i → get_or U t 0 ≡ 0xffffffffffffffff) where
-  shut : (t : ℕ) → from ≤ t → t < i → not (eqb (get_or U t 0) 0xffffffffffffffff) ≡ false
-  shut t h k = ap not (eq-eqb (get_or U t 0) 0xffffffffffffffff (full t h k))
+-- a word that is not full
+abbrev pub some_free : ℕ → Bool
+some_free w = not (eqb w 0xffffffffffffffff)
 
-  pub open_at : (get_or U i 0 ≡ 0xffffffffffffffff → ⊥) → i ≡ open_on U from end
-  unfolding open_on
-  open_at h = sym (first-is (λ i. not (eqb (get_or U i 0) 0xffffffffffffffff)) (end - from) from i a (omega arith)
-      (ap not (ne_eqb (get_or U i 0) 0xffffffffffffffff h)) shut)
+open_over : (f : ℕ → Bool) (xs : List ℕ) (s : ℕ) → ((k : ℕ) → k < length xs → f (s + k) ≡ some_free (get_or xs k 0))
+    → first_from f (length xs) s ≡ s + position_or_len some_free xs
+unfolding first_from
+open_over f [] s h = omega arith
+open_over f (x ∷ xs) s h =
+    let z : s + 0 ≡ s = omega arith in
+    let here : f s ≡ some_free x = ap f (sym z) ∙ h 0 (omega arith) in
+    let next = open_over f xs (suc s) (λ k a. let q : suc s + k ≡ s + suc k = omega arith in ap f q ∙ h (suc k) (omega arith)) in
+    grind arith
 
-  pub open-on : get_or U i 0 ≡ 0xffffffffffffffff → (t : ℕ) → from ≤ t → t < i + 1 → get_or U t 0 ≡ 0xffffffffffffffff
-  open-on e t h k = go (eqb t i) refl
-    where
-      go : (c : Bool) → eqb t i ≡ c → get_or U t 0 ≡ 0xffffffffffffffff
-      go true q = ap (λ (z : ℕ). get_or U z 0) (eqb-true t i q) ∙ e
-      go false q = let n = eqb-false t i q in full t h (omega (arith, n))
+position_or_end : (xs : List ℕ) → position_or_len some_free xs ≤ length xs
+    → unwrap_or (position some_free xs) (length xs) ≡ position_or_len some_free xs
+position_or_end xs h = grind arith
 
-  pub open_none : end ≤ i → end ≡ open_on U from end
-  unfolding open_on
-  open_none h =
-      let q : from + (end - from) ≡ end = omega arith in
-      sym (miss (λ i. not (eqb (get_or U i 0) 0xffffffffffffffff)) (end - from) from (λ t x y. shut t x (omega arith)) ∙ q)
+-- xs are the words from `from` on
+pub open_where : (U : List ℕ) (from : ℕ) (xs : List ℕ) (r : Option ℕ) → xs ≡ drop from U → r ≡ position some_free xs
+    → from + unwrap_or r (length xs) ≡ open_on U from (length U)
+unfolding open_on
+open_where U from xs r ex e =
+    let is = open_over f xs from (λ k a. ap some_free (sym (ap (λ (l : List ℕ). get_or l k 0) ex ∙ get_or-drop from U k 0))) in
+    let most = from_most f (length xs) from in
+    ap (λ (z : Option ℕ). from + unwrap_or z (length xs)) e ∙ ap (λ (z : ℕ). from + z) (position_or_end xs (omega arith))
+    ∙ sym is ∙ ap (λ (n : ℕ). first_from f n from) (ap length ex ∙ length-drop from U)
+  where
+    f : ℕ → Bool
+    f i = some_free (get_or U i 0)

@@ -54,12 +54,10 @@ start_on C ls from end =
     (cond (ltb from (get_or C (get_or ls 0 0) 0)) (cond (leb (get_or C (get_or ls 0 0) 0) end) (get_or C (get_or ls 0 0) 0) from) from)
     from
 
--- What the search asks: words from `from` up to `end` are there in both runs of marks, in whole blocks of four, one at least, and
--- every slot is a number of 32 bits.
-pub record Bounds (U B : List ℕ) (from end : ℕ) : Type 0 where
-  pub from_le : from ≤ end
-  pub blocks : end % 4 ≡ 0
-  pub some : 4 ≤ end
-  pub in-used : end ≤ length U
-  pub in-bases : end ≤ length B
-  pub small : end * 64 < 2 ^ 32
+-- What the search asks: words from `from` on are there, as many in both runs of marks, in whole blocks of four, and every slot is a number
+-- of 32 bits.
+pub record Bounds (U B : List ℕ) (from : ℕ) : Type 0 where
+  pub from_le : from ≤ length U
+  pub blocks : length U % 4 ≡ 0
+  pub as_many : length B ≡ length U
+  pub small : length U * 64 < 2 ^ 32

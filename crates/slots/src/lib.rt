@@ -17,18 +17,20 @@ pub struct Front {
 }
 
 /// How far the placing is after a node, if it got this base.
-pub fn passed(used: &[u64], at: Front, end: usize, base: Option<usize>) -> Option<Front>
-    requires { (at.from ≤ end) × (end ≤ length used.now) }
-    ensures { result ≡ passed_on used.now at end base }
+// Kept: an Option, as `Marks::place` answers it; a usize would be a narrower type and ask more of callers.
+pub fn passed(used: &[u64], at: Front, base: Option<usize>) -> Option<Front>
+    requires { at.from ≤ length used.now }
+    ensures { result ≡ passed_on used.now at (length used.now) base }
 {
     let base = base?;
     Some(Front {
-        from: search::open_from(used, at.from, end),
+        from: search::open_from(used, at.from),
         high: at.high.max(base / 256),
     })
 }
 
 /// How many words of marks are searched, 64 slots in each: those of the table capacity. No layout needs more blocks than 2^24 - 1.
+#[tactic(auto, unfolding(spec::specs::Load::table_room))]
 pub fn words_of_marks(table: usize, used: usize, bases: usize) -> usize
     ensures { result * 64 ≡ min (table_room table used bases) (256 * 16777215) }
 {

@@ -1,16 +1,17 @@
 // Marks of slots and bases, 64 to a word: how a word of them moves, how one is set, and the word at which a search begins.
-ghost use Rattle.std.specs.Prelude.{◌≡◌, not, ◌||◌, List, ℕ, ◌+◌, ◌*◌, ◌/◌, ◌^◌, ◌<◌, ◌≤◌, eqb, length};
+ghost use Rattle.std.specs.Prelude.{◌≡◌, not, ◌||◌, List, ◌∷◌, ℕ, ◌+◌, ◌*◌, ◌/◌, ◌^◌, ◌<◌, ◌≤◌, eqb, length};
 ghost use Rattle.std.specs.Int.Bits.{bit_xor};
 ghost use Rattle.spec.specs.Layout.{Put, choose, put};
 ghost use Rattle.laws.specs.Nodes.{ByteLabels};
 ghost use Rattle.laws.specs.Perm.{bit, maybe};
 ghost use Rattle.laws.specs.MarkLaws.{marked, mark};
-ghost use Rattle.slots.specs.Marks.{MovedWord, mark_all, start_on, open_on};
+ghost use Rattle.slots.specs.Marks.{MovedWord, mark_all, open_on};
 ghost use Rattle.slots.specs.Going.{CursorsOk};
 
 // ---- the permutation
 
 // Where d has the bit s, neighbouring groups of s bits change places.
+#[tactic(auto, using(crate::proofs::Bitwise::maybe_stages))]
 fn swap_if(word: u64, mask: u64, s: u64, d: usize) -> u64
     requires { (0 < s) × (s < 64) × (mask * 2 ^ s < 2 ^ 64) }
     ensures { result ≡ maybe mask s d word }
@@ -37,6 +38,7 @@ pub fn xor_perm(word: u64, d: usize) -> u64
 // ---- candidates
 
 // The marks of word i with each slot moved by d: bit j is the mark of slot (64 i + j) XOR d.
+#[tactic(auto, using(crate::proofs::Find::moved_word))]
 pub(crate) fn moved(marks: &[u64], i: usize, d: usize) -> u64
     requires { bit_xor i (d / 64) < length marks.now }
     ensures { MovedWord marks.now i d result }
@@ -47,6 +49,7 @@ pub(crate) fn moved(marks: &[u64], i: usize, d: usize) -> u64
 // ---- marks
 
 // Slot s is marked, and no other.
+#[tactic(auto, using(crate::proofs::Find::mark_stored))]
 pub(crate) fn mark_slot(marks: &mut [u64], s: usize)
     requires { s / 64 < length marks.old }
     ensures means { (t : ℕ) → marked marks.new t ≡ (marked marks.old t || eqb t s) }
@@ -56,6 +59,7 @@ pub(crate) fn mark_slot(marks: &mut [u64], s: usize)
 }
 
 // Marks the slots of a node's children.
+#[tactic(auto, using(crate::proofs::Find::mark_turns))]
 pub(crate) fn mark_all(marks: &mut [u64], base: usize, labels: &[u8])
     requires { base / 256 * 4 + 4 ≤ length marks.old }
     ensures { marks.new ≡ mark_all base marks.old labels.now }
@@ -67,45 +71,25 @@ pub(crate) fn mark_all(marks: &mut [u64], base: usize, labels: &[u8])
 
 // ---- where a search begins
 
-// The first word from from on that is not full, end if there is none.
-// Kept: end is where the next search begins, so that an Option would become it at once.
-pub fn open_from(used: &[u64], from: usize, end: usize) -> usize
-    requires { (from ≤ end) × (end ≤ length used.now) }
-    ensures { result ≡ open_on used.now from end }
+// The first word from from on that is not full; how many words there are if none is.
+// Kept: the answer is where the next search begins, so that an Option would become it at once.
+pub fn open_from(used: &[u64], from: usize) -> usize
+    requires { from ≤ length used.now }
+    ensures { result ≡ open_on used.now from (length used.now) }
 {
-    for i in from..end {
-        if used[i] != u64::MAX {
-            return i;
-        }
-    }
-    end
-}
-
-// The word at which the search for a node of these labels begins. Words below from are full; for a node of one label the words below its
-// label's cursor have been searched, and what was refused stays refused.
-pub(crate) fn start_of(cursors: &[u32], labels: &[u8], from: usize, end: usize) -> usize
-    requires { (256 ≤ length cursors.now) × (1 ≤ length labels.now) }
-    ensures { result ≡ start_on cursors.now labels.now from end }
-{
-    let [label] = labels else {
-        return from;
-    };
-    let cursor = cursors[usize::from(*label)] as usize;
-    if from < cursor && cursor <= end {
-        return cursor;
-    }
-    from
+    let rest = &used[from..];
+    let open = rest.iter().position(|&word| word != u64::MAX);
+    from + open.unwrap_or(rest.len())
 }
 
 // A node was placed at base. If it has one label, its label's cursor is the word of its slot.
-pub(crate) fn remember(cursors: &mut [u32], labels: &[u8], base: usize)
-    requires { (256 ≤ length cursors.old) × (1 ≤ length labels.now) × (base < 2 ^ 32) }
-    ensures { (L : List ℕ → List ℕ) (xs : List Put) (p : List ℕ) → labels.now ≡ L p → ByteLabels L
+pub(crate) fn remember(cursors: &mut [u32], first: u8, others: &[u8], base: usize)
+    requires { (256 ≤ length cursors.old) × (base < 2 ^ 32) }
+    ensures { (L : List ℕ → List ℕ) (xs : List Put) (p : List ℕ) → first ∷ others.now ≡ L p → ByteLabels L
         → base ≡ choose L xs (L p) → CursorsOk L xs cursors.old → CursorsOk L (put L xs p) cursors.new }
 {
-    let [label] = labels else {
-        return;
-    };
-    let label = usize::from(*label);
-    cursors[label] = ((base ^ label) / 64) as u32;
+    let label = usize::from(first);
+    if others.is_empty() {
+        cursors[label] = ((base ^ label) / 64) as u32;
+    }
 }

@@ -1,14 +1,12 @@
 -- What the answers of `source` mean, in the terms of `spec`. Assumes nothing.
-use Rattle.std.specs.Prelude.{◌||◌, cond, List, ℕ, ◌≤◌, eqb, take, Option, None, Some, Result, Ok, Err}
+use Rattle.std.specs.Prelude.{◌||◌, cond, List, ℕ, eqb, take, Option, None, Some, Result, Ok, Err}
 use Rattle.spec.specs.Check.{Check, refuse}
-use Rattle.spec.specs.Token.{Token}
 use Rattle.spec.specs.Load.{vocabulary, halts, goes}
 use Rattle.spec.specs.Load as spec
 use Rattle.refusals.specs.declared.Refusal.{Refusal}
 use Rattle.refusals.specs.declared.LoadError.{LoadError}
 use Rattle.refusals.specs.Numbers.{number}
 use Rattle.refusals.specs.Places.{place_of}
-use Rattle.source.specs.declared.read.Found.{Found}
 use Rattle.source.specs.declared.Edition.{Edition}
 use Rattle.source.specs.declared.Plan.{Plan}
 
@@ -44,11 +42,3 @@ start_is s (Err e) = halts (number e.refusal) (place_of e.place)
 abbrev pub unless : {A : Type 0} → Result (Unit {0}) Refusal → Check A → Check A
 unless (Ok u) rest = rest
 unless (Err r) rest = refuse (number r)
-
--- the token that was found: its bytes are the first of the cells
-abbrev pub token_in : List ℕ → Found → Token
-token_in cells f = record { id = f.id; bytes = take f.len cells }
-
--- the bytes are in the cells, all of them
-abbrev pub Short : Found → Type 0
-Short f = f.len ≤ 255

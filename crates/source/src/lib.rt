@@ -5,7 +5,7 @@
 pub mod read;
 pub mod rules;
 
-ghost use Rattle.std.specs.Prelude.{◌≡◌, ◌≤◌, length, IfOk};
+ghost use Rattle.std.specs.Prelude.{◌≡◌, ◌≤◌, length, Some, IfOk};
 ghost use Rattle.spec.specs.Load.{vocabulary, start_of};
 ghost use Rattle.memory.specs.Lent.{cells_of};
 ghost use Rattle.source.specs.SourceAnswers.{edition_told, number_of, form_of, known, start_is};
@@ -16,8 +16,8 @@ use refusals::{LoadError, Place, Refusal};
 /// An edition of a vocabulary text.
 #[derive(Clone, Copy, Debug, PartialEq, Eq)]
 pub enum Edition {
-    First,
-    Second,
+    First = 1,
+    Second = 2,
 }
 
 impl Edition {
@@ -25,10 +25,7 @@ impl Edition {
     pub fn number(self) -> u32
         ensures { result ≡ number_of self }
     {
-        match self {
-            Edition::First => 1,
-            Edition::Second => 2,
-        }
+        self as u32
     }
 }
 
@@ -47,18 +44,19 @@ impl TryFrom<u32> for Edition {
     }
 }
 
-/// What is asked of a load: the form of its source, a text of an edition or of none that there is, and whether bytes may lack a one-byte
-/// token.
+/// What a load is asked to do. `form` says how its source is written: as a text of this edition; None is an edition that there is not, and
+/// the load is refused. `partial` lets bytes lack a one-byte token.
 #[derive(Clone, Copy, Debug, PartialEq, Eq)]
 pub struct How {
     pub form: Option<Edition>,
     pub partial: bool,
 }
 
-/// What a load goes by that is not refused at once: the form and the mode, and how many bytes of the source hold its records.
+/// A load that may begin: the edition of its text, the mode that was asked for, and how many bytes at the front of the source are its
+/// records.
 #[derive(Clone, Copy, Debug, PartialEq, Eq)]
 pub struct Plan {
-    pub form: Option<Edition>,
+    pub edition: Edition,
     pub partial: bool,
     pub end: usize,
 }
@@ -78,11 +76,9 @@ pub fn text_of(edition: u32, partial: bool) -> How
 pub fn start_of(source: &[u8], how: How, memory: Memory) -> Result<Plan, LoadError>
     ensures means { start_is source.now result
         ≡ start_of (form_of how.form) how.partial (cells_of memory.entry) source.now }
-    ensures plan { IfOk result (λ p. (p.form ≡ how.form) × (p.end ≤ length source.now)) }
+    ensures plan { IfOk result (λ p. (how.form ≡ Some p.edition) × (p.end ≤ length source.now)) }
 {
-    if how.form.is_none() {
-        return Err(LoadError::from(Refusal::NoEdition));
-    }
+    let edition = how.form.ok_or(Refusal::NoEdition)?;
     if memory.too_short() {
         return Err(LoadError::from(Refusal::ShortMemory));
     }
@@ -93,7 +89,7 @@ pub fn start_of(source: &[u8], how: How, memory: Memory) -> Result<Plan, LoadErr
         });
     }
     Ok(Plan {
-        form: how.form,
+        edition,
         partial: how.partial,
         end: source.len(),
     })

@@ -28,7 +28,7 @@ pub fn id_refusal(previous: u16, id: u16) -> Result<(), Refusal>
 #[tactic(auto, unfolding(spec::specs::Load::length_rule, spec::specs::Check::need))]
 pub fn length_refusal(wanted: u64, len: usize) -> Result<(), Refusal>
     ensures rule { (t : Token) → length t.bytes ≡ len → length_rule wanted t ≡ unless result (pass t) }
-    ensures short { OnOk result (len ≤ 255) }
+    ensures short { OnOk result ((1 ≤ len) × (len ≤ 255)) }
 {
     if len == 0 {
         return Err(Refusal::EmptyToken);

@@ -1,13 +1,12 @@
 -- What an add comes to, from the runs over the window and over the piece. Assumes nothing.
 use mathlib.Core.Path.{◌≡◌, refl, sym, ap, ap₂, ◌∙◌, subst}
 use mathlib.Core.Bool.{Bool, true, false, true≢false}
-use mathlib.Core.List.{List, [], ◌∷◌, ◌++◌, append-nil}
-use Prim.Native.Nat.{ℕ, suc, ◌+◌, ◌-◌, ◌≤◌, ◌<◌}
+use mathlib.Core.List.{List, [], ◌++◌, append-nil, append_assoc}
+use Prim.Native.Nat.{ℕ, ◌+◌, ◌-◌, ◌≤◌, ◌<◌}
 use native.Mathlib.Omega.{arith}
-use native.Mathlib.Nat.{add-zero}
 use lib.Dec.{leb}
 use lib.ListN.{length, take, drop, get_or, length-append, length-drop, drop_of_length-le}
-use lib.Seq.{sets, sets-eq, drop-append-add, length-take-le}
+use lib.Seq.{drop-append-add, drop-drop, length-take-le, take-append_seam, drop-append_seam}
 use borrow.Author.Tests.{leb-true, leb-false}
 use Rattle.std.specs.Prelude.{Ok, Err}
 use Rattle.spec.specs.Answer.{whole}
@@ -22,26 +21,28 @@ use Rattle.runs.specs.declared.Ran.{Ran}
 use Rattle.runs.specs.declared.Ran.TheVariants.{Through, Waiting, Stuck}
 use Rattle.stream_record.specs.Answers.{record_of, answer_of}
 use Rattle.stream.specs.Handing.{reached, Hands}
-use Rattle.runs.specs.Running.{prepend, Alike, run_from, count_of, RunsTo}
+use Rattle.runs.specs.Running.{prepend, Alike, count_of, RunsTo}
 use Rattle.runs.proofs.Undecided.{long_decided}
 use Rattle.stream.proofs.Windows.{window, window-alike, short-piece}
 
 -- ── The output ───────────────────────────────────────────────────────
 
-sets_more : (xs ys l : List ℕ) (at : ℕ) → sets (sets l at xs) (at + length xs) ys ≡ sets l at (xs ++ ys)
-sets_more [] ys l at = ap (λ (k : ℕ). sets l k ys) (add-zero at)
-sets_more (x ∷ xs) ys l at =
-    let e : at + suc (length xs) ≡ suc at + length xs = omega arith in
-    ap (λ (k : ℕ). sets (sets l at (x ∷ xs)) k ys) e ∙ sets_more xs ys _ (suc at)
+-- ids written behind others stand with them
+module _ (xs ys lent : List ℕ) where
+  wrote : drop (length xs) (over xs lent) ≡ drop (length xs) lent
+  wrote = drop-append_seam xs (drop (length xs) lent)
 
--- ids written from the start stand over what was there
-pub sets_over : (ids l : List ℕ) → length ids ≤ length l → sets l 0 ids ≡ over ids l
-sets_over ids l h = let e : 0 + length ids ≡ length ids = omega arith in sets-eq ids l 0 (omega arith) ∙ ap (λ (k : ℕ). ids ++ drop k l) e
+  pub over_over : xs ++ over ys (drop (length xs) (over xs lent)) ≡ over (xs ++ ys) lent
+  over_over =
+      ap (λ (l : List ℕ). xs ++ over ys l) wrote
+      ∙ ap (λ (l : List ℕ). xs ++ (ys ++ l)) (drop-drop (length ys) (length xs) lent)
+      ∙ sym (append_assoc xs ys (drop (length xs + length ys) lent))
+      ∙ ap (λ (n : ℕ). (xs ++ ys) ++ drop n lent) (sym (length-append xs ys))
 
 -- ── What is handed back ──────────────────────────────────────────────
 
 module _ (total : ℕ) (before : List ℕ) (u : Run) (lent out : List ℕ) (r : Called) (ids : List ℕ) (n p : ℕ)
-    (count : n ≡ length before + length ids) (written : out ≡ sets lent (length before) ids) where
+    (count : n ≡ length before + length ids) (written : out ≡ over ids lent) where
   joins : n ≡ length (before ++ ids)
   joins = count ∙ sym (length-append before ids)
 
@@ -77,40 +78,34 @@ waits_few m s u = go (leb (length s) 254) refl
     go true p = leb-true (length s) 254 p
     go false p = absurd (true≢false (sym u ∙ long_decided m s (leb-false (length s) 254 p)))
 
-module _ (m : Memory) (piece : List ℕ) (from count total all at n : ℕ) (before lent out : List ℕ) (r : Called) (b : length before
-    ≡ count) where
-  counts : {q : Ran} → (w : RunsTo m piece from (length piece) count lent out q) → count_of q ≡ length before + length w.ids
-  counts w = omega (arith, w.count)
+module _ (m : Memory) (s : List ℕ) (pos count all at n : ℕ) (before lent out : List ℕ) (r : Called) (b : length before ≡ count) where
+  counts : {q : Ran} → count_of q ≡ n → (w : RunsTo m s (length s) lent out q) → count + n ≡ length before + length w.ids
+  counts e w = omega (arith, w.count)
 
-  writes : {q : Ran} → (w : RunsTo m piece from (length piece) count lent out q) → out ≡ sets lent (length before) w.ids
-  writes w = w.written ∙ ap (λ (k : ℕ). sets lent k w.ids) (sym b)
-
-  pub rest-through : RunsTo m piece from (length piece) count lent out (Through at n)
-      → (r.answer ≡ Ok n) × (record_of r.stream ≡ holding 0 all (drop at piece)) → Hands all before (run_from m total piece from)
-      lent out r
+  pub rest-through : RunsTo m s (length s) lent out (Through at n)
+      → (r.answer ≡ Ok (count + n)) × (record_of r.stream ≡ holding 0 all (drop at s)) → Hands all before (run_on m pos 0 s) lent out r
   rest-through w g =
       let c = w.comes in
-      let nil : drop at piece ≡ [] = drop_of_length-le piece c.0 in
-      hands-opened all before (run_from m total piece from) lent out r w.ids n (total + at) (counts w) (writes w) (drop at piece)
-      (c.2 piece total (alike_self m piece)
-      ∙ ap (prepend w.ids) (ap (run_on m (total + at) 0) nil ∙ run-nil m (total + at)
-      ∙ ap (λ (t : List ℕ). record { ids = []; stop = waiting (total + at) t }) (sym nil))
-      ∙ ap (λ (x : List ℕ). record { ids = x; stop = waiting (total + at) (drop at piece) }) (append-nil w.ids)) g
+      let nil : drop at s ≡ [] = drop_of_length-le s c.0 in
+      hands-opened all before (run_on m pos 0 s) lent out r w.ids (count + n) (pos + at) (counts refl w) w.written (drop at s)
+      (c.2 s pos (alike_self m s)
+      ∙ ap (prepend w.ids) (ap (run_on m (pos + at) 0) nil ∙ run-nil m (pos + at)
+      ∙ ap (λ (t : List ℕ). record { ids = []; stop = waiting (pos + at) t }) (sym nil))
+      ∙ ap (λ (x : List ℕ). record { ids = x; stop = waiting (pos + at) (drop at s) }) (append-nil w.ids)) g
 
-  pub rest-waiting : RunsTo m piece from (length piece) count lent out (Waiting at n)
-      → (r.answer ≡ Ok n) × (record_of r.stream ≡ holding 0 all (drop at piece)) → Hands all before (run_from m total piece from)
-      lent out r
+  pub rest-waiting : RunsTo m s (length s) lent out (Waiting at n)
+      → (r.answer ≡ Ok (count + n)) × (record_of r.stream ≡ holding 0 all (drop at s)) → Hands all before (run_on m pos 0 s) lent out r
   rest-waiting w g =
-      hands-opened all before (run_from m total piece from) lent out r w.ids n (total + at) (counts w) (writes w) (drop at piece)
-      (w.comes.2 piece total (alike_self m piece)) g
+      hands-opened all before (run_on m pos 0 s) lent out r w.ids (count + n) (pos + at) (counts refl w) w.written (drop at s)
+      (w.comes.2 s pos (alike_self m s)) g
 
-  pub rest-stuck : RunsTo m piece from (length piece) count lent out (Stuck at n)
-      → (r.answer ≡ Err (Stopped n (total + at) (get_or piece at 0)))
-      × (record_of r.stream ≡ stopped_at all (total + at) (get_or piece at 0))
-      → Hands all before (run_from m total piece from) lent out r
+  pub rest-stuck : RunsTo m s (length s) lent out (Stuck at n)
+      → (r.answer ≡ Err (Stopped (count + n) (pos + at) (get_or s at 0)))
+      × (record_of r.stream ≡ stopped_at all (pos + at) (get_or s at 0))
+      → Hands all before (run_on m pos 0 s) lent out r
   rest-stuck w g =
-      hands-stopped all before (run_from m total piece from) lent out r w.ids n (total + at) (counts w) (writes w) (get_or piece at 0)
-      (w.comes.1 piece total (alike_self m piece)) g
+      hands-stopped all before (run_on m pos 0 s) lent out r w.ids (count + n) (pos + at) (counts refl w) w.written (get_or s at 0)
+      (w.comes.1 s pos (alike_self m s)) g
 
 -- ── Held bytes and piece ─────────────────────────────────────────────
 
@@ -128,48 +123,47 @@ waits_whole m held piece at h u = go (leb (length piece) reached) refl
         let k = length-take-le reached piece (omega arith) in
         absurd (true≢false (sym u ∙ long_decided m (drop at (window held piece)) (omega arith)))
 
-module _ (m : Memory) (held piece : List ℕ) (pos total all at n : ℕ) (lent out : List ℕ) (r : Called) where
-  start : run_on m pos 0 (held ++ piece) ≡ run_from m pos (held ++ piece) 0
-  start = ap (λ (p : ℕ). run_on m p 0 (held ++ piece)) (sym (add-zero pos))
-
-  pub held-waiting : RunsTo m (window held piece) 0 (length held) 0 lent out (Waiting at n)
+module _ (m : Memory) (held piece : List ℕ) (pos all at n : ℕ) (lent out : List ℕ) (r : Called) where
+  pub held-waiting : RunsTo m (window held piece) (length held) lent out (Waiting at n)
       → (r.answer ≡ Ok n) × (record_of r.stream ≡ holding 0 all (drop at (window held piece)))
       → Hands all [] (run_on m pos 0 (held ++ piece)) lent out r
   held-waiting w g =
       let c = w.comes in
-      hands-opened all [] (run_on m pos 0 (held ++ piece)) lent out r w.ids n (pos + at) w.count w.written
+      hands-opened all [] (run_on m pos 0 (held ++ piece)) lent out r w.ids n (pos + at) (omega (arith, w.count)) w.written
       (drop at (window held piece))
-      (start ∙ c.2 (held ++ piece) pos (window-alike m held piece)
+      (c.2 (held ++ piece) pos (window-alike m held piece)
       ∙ ap (λ (t : List ℕ). record { ids = w.ids; stop = waiting (pos + at) (drop at t) })
       (sym (waits_whole m held piece at c.0 c.1))) g
 
-  pub held-stuck : RunsTo m (window held piece) 0 (length held) 0 lent out (Stuck at n)
+  pub held-stuck : RunsTo m (window held piece) (length held) lent out (Stuck at n)
       → (r.answer ≡ Err (Stopped n (pos + at) (get_or (window held piece) at 0)))
       × (record_of r.stream ≡ stopped_at all (pos + at) (get_or (window held piece) at 0))
       → Hands all [] (run_on m pos 0 (held ++ piece)) lent out r
   held-stuck w g =
-      hands-stopped all [] (run_on m pos 0 (held ++ piece)) lent out r w.ids n (pos + at) w.count w.written
+      hands-stopped all [] (run_on m pos 0 (held ++ piece)) lent out r w.ids n (pos + at) (omega (arith, w.count)) w.written
       (get_or (window held piece) at 0)
-      (start ∙ w.comes.1 (held ++ piece) pos (window-alike m held piece)) g
+      (w.comes.1 (held ++ piece) pos (window-alike m held piece)) g
 
-  pub held-through : (mid : List ℕ) (w : RunsTo m (window held piece) 0 (length held) 0 lent mid (Through at n)) → pos + length held ≡ total
-      → ((before : List ℕ) → length before ≡ n → Hands all before (run_from m total piece (at - length held)) mid out r)
+  -- the rest of the piece, which stands at the offset `from`, and what is left of the output behind the ids of the held bytes
+  pub held-through : {mid last rest left : List ℕ} {from : ℕ} (w : RunsTo m (window held piece) (length held) lent mid (Through at n))
+      → from ≡ pos + at → rest ≡ drop (at - length held) piece → from + length rest ≡ all → left ≡ drop n mid → out ≡ take n mid ++ last
+      → ((before : List ℕ) → length before ≡ n → Hands (from + length rest) before (run_on m from 0 rest) left last r)
       → Hands all [] (run_on m pos 0 (held ++ piece)) lent out r
-  held-through mid w p g =
+  held-through {mid} {last} {rest} {left} {from} w f p t l o g =
       let c = w.comes in
-      let k = w.count in
-      let h = g w.ids (omega arith) in
-      let u : Run = run_from m total piece (at - length held) in
-      let a : pos + at ≡ total + (at - length held) = omega (arith, c.0) in
+      let u : Run = run_on m from 0 rest in
+      let h = subst (λ (k : ℕ). Hands k w.ids u left last r) t (g w.ids (sym w.count)) in
       let d : at ≡ length held + (at - length held) = omega (arith, c.0) in
-      let z : length w.ids ≡ 0 + length w.ids = omega arith in
       let e : run_on m pos 0 (held ++ piece) ≡ prepend w.ids u =
-      start ∙ c.2 (held ++ piece) pos (window-alike m held piece)
-      ∙ ap (prepend w.ids) (ap₂ (λ (x : ℕ) (t : List ℕ). run_on m x 0 t) a
-      (ap (λ (j : ℕ). drop j (held ++ piece)) d ∙ drop-append-add held piece (at - length held))) in
+      c.2 (held ++ piece) pos (window-alike m held piece)
+      ∙ ap (prepend w.ids) (ap₂ (λ (x : ℕ) (s : List ℕ). run_on m x 0 s) (sym f)
+      (ap (λ (j : ℕ). drop j (held ++ piece)) d ∙ drop-append-add held piece (at - length held) ∙ sym p)) in
+      let first : take n mid ≡ w.ids =
+      ap₂ (λ (k : ℕ) (s : List ℕ). take k s) w.count w.written ∙ take-append_seam w.ids (drop (length w.ids) lent) in
+      let behind : left ≡ drop (length w.ids) (over w.ids lent) = l ∙ ap₂ (λ (k : ℕ) (s : List ℕ). drop k s) w.count w.written in
       subst (λ (v : Run). Hands all [] v lent out r) (sym e)
       (record {
         answer = h.answer;
         stream = h.stream;
-        written = h.written ∙ ap₂ (λ (l : List ℕ) (j : ℕ). sets l j u.ids) w.written z ∙ sets_more w.ids u.ids lent 0;
+        written = o ∙ ap₂ (λ (x y : List ℕ). x ++ y) first (h.written ∙ ap (over u.ids) behind) ∙ over_over w.ids u.ids lent;
       })

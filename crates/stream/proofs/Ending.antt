@@ -14,13 +14,14 @@ use Rattle.spec.specs.Memory.{Memory, too_short}
 use Rattle.spec.specs.Match.{Match, nothing, found, match_on}
 use Rattle.spec.specs.Encode.{EncodeEnd, complete, unmatched, Encoding, encoded, encode_at, encoding, encode_answer, Output, encode_on}
 use Rattle.spec.specs.Stream as spec
-use Rattle.spec.specs.Stream.{StreamRecord, end, holding, stopped_at, closed, scan_on, call_refusal, goes_through}
+use Rattle.spec.specs.Stream.{StreamRecord, add, end, holding, stopped_at, closed, scan_on, goes_through}
 use Rattle.laws.specs.StreamLaws.{scan_on-none, scan_on-some}
 use Rattle.spec.specs.Stream.{call_on}
 use Rattle.stream_record.specs.declared.Called.{Called}
 use Rattle.stream_record.specs.declared.StreamError.TheVariants.{Stopped}
 use Rattle.stream_record.specs.Answers.{record_of, answer_of, Answered}
-use Rattle.stream_record.proofs.Refusing.{call-through}
+use Rattle.stream.specs.Handing.{refusal}
+use Rattle.stream.proofs.Calling.{Ready, ready, end_ready, call-through}
 
 -- ── The scan as an encoding with room ────────────────────────────────
 
@@ -92,20 +93,20 @@ module _ (m : Memory) (s : List ℕ) (n : ℕ) (long : too_short m ≡ false) (r
       rw (long, encode_on)
       (ap (λ (e : Encoding). record { answer = encode_answer (length e.ids) e.end; cells = e.ids }) (roomy m n 0 0 s (omega arith)))
 
-  pub its-cells : (encode_on m n s).cells ≡ ids
+  its-cells : (encode_on m n s).cells ≡ ids
   its-cells = ap (λ (o : Output). o.cells) encodes
 
   its-answer : (x : End) → (scan_on m 0 0 s).end ≡ x → (encode_on m n s).answer ≡ encode_answer (length ids) (end_of x)
   its-answer x w = ap (λ (o : Output). o.answer) encodes ∙ ap (λ (y : End). encode_answer (length ids) (end_of y)) w
 
-  pub says-whole : (count : ℕ) → whole count ≡ (encode_on m n s).answer → ((scan_on m 0 0 s).end ≡ done) × (count ≡ length ids)
+  says-whole : (count : ℕ) → whole count ≡ (encode_on m n s).answer → ((scan_on m 0 0 s).end ≡ done) × (count ≡ length ids)
   says-whole count e = go (scan_on m 0 0 s).end refl
     where
       go : (x : End) → (scan_on m 0 0 s).end ≡ x → ((scan_on m 0 0 s).end ≡ done) × (count ≡ length ids)
       go done w = (w, ap (λ (a : Answer). a.count) (e ∙ its-answer done w))
       go (failed p b) w = let z = ap (λ (a : Answer). a.number) (e ∙ its-answer (failed p b) w) in absurd (omega arith)
 
-  pub says_none : (count offset byte : ℕ) → record { number = 22; count = count; place = offset; value = byte } ≡ (encode_on m n s).answer
+  says_none : (count offset byte : ℕ) → record { number = 22; count = count; place = offset; value = byte } ≡ (encode_on m n s).answer
       → ((scan_on m 0 0 s).end ≡ failed offset byte) × (count ≡ length ids) × (offset < length s)
   says_none count offset byte e = go (scan_on m 0 0 s).end refl
     where
@@ -118,7 +119,7 @@ module _ (m : Memory) (s : List ℕ) (n : ℕ) (long : too_short m ≡ false) (r
           (x, ap (λ (a : Answer). a.count) q, omega (arith, fails-within m 0 0 s offset byte x))
 
   -- it has no other answer
-  pub says_other : (a : Answer) → (a.number ≡ 0 → ⊥) → (a.number ≡ 22 → ⊥) → a ≡ (encode_on m n s).answer → ⊥
+  says_other : (a : Answer) → (a.number ≡ 0 → ⊥) → (a.number ≡ 22 → ⊥) → a ≡ (encode_on m n s).answer → ⊥
   says_other a whole' none' e = go (scan_on m 0 0 s).end refl
     where
       go : (x : End) → (scan_on m 0 0 s).end ≡ x → ⊥
@@ -127,44 +128,62 @@ module _ (m : Memory) (s : List ℕ) (n : ℕ) (long : too_short m ≡ false) (r
 
 -- ── The call ─────────────────────────────────────────────────────────
 
-module _ (m : Memory) (r : StreamRecord) (lent out : List ℕ) (d : Called) (long : too_short m ≡ false) (goes : None
-    ≡ call_refusal r (end lent))
-    (room : length (take r.held_len r.held) ≤ length lent) (written : out
-    ≡ over (encode_on m (length lent) (take r.held_len r.held)).cells lent) where
+-- an end that goes through, which is refused as an add of no bytes
+module _ (m : Memory) (r : StreamRecord) (lent : List ℕ) (goes : None ≡ refusal m r (add [] lent)) (full : 254 ≤ length r.held)
+    (small : r.total ≤ 4294967295) where
+  g : Ready m r [] lent
+  g = ready m r [] lent goes full
+
   abbrev held : List ℕ
   held = take r.held_len r.held
 
-  abbrev handed : List ℕ
-  handed = (scan_on m 0 0 held).ids
+  abbrev encoded_as : Answer → Type 0
+  encoded_as a = a ≡ (encode_on m (length lent) held).answer
 
-  comes : (x : End) → (scan_on m 0 0 held).end ≡ x → call_on m r (end lent) ≡ closed r.total handed (later_end (r.total - r.held_len) x)
-  unfolding goes_through
-  comes x w =
-      call-through m r (end lent) long goes
-      ∙ ap (λ (v : Scan). closed r.total v.ids v.end)
-      (ap (λ (p : ℕ). scan_on m p 0 held) (sym (add-zero (r.total - r.held_len))) ∙ shifts m (r.total - r.held_len) 0 0 held)
-      ∙ ap (λ (y : End). closed r.total handed (later_end (r.total - r.held_len) y)) w
+  room : length held ≤ length lent
+  room = omega (arith, g.many, g.passes.room)
 
-  cells : out ≡ over handed lent
-  cells = written ∙ ap (λ (l : List ℕ). over l lent) (its-cells m held (length lent) long room)
+  -- where the held bytes stop
+  pub fails_at : (count offset byte : ℕ) → encoded_as (record { number = 22; count = count; place = offset; value = byte })
+      → (offset < r.held_len) × (r.held_len ≤ 254) × (r.held_len ≤ r.total)
+  fails_at count offset byte e =
+      let w = says_none m held (length lent) g.long room count offset byte e in
+      (omega (arith, w.2, g.many), g.passes.few, g.passes.held)
 
-  pub gives-closed : (count : ℕ) → whole count ≡ (encode_on m (length lent) held).answer
-      → (d.answer ≡ Ok count) × (record_of d.stream ≡ holding 2 r.total []) → Answered (call_on m r (end lent)) d lent out
-  gives-closed count e g =
-      let w = says-whole m held (length lent) long room count e in
-      subst (λ (x : spec.Called). Answered x d lent out) (sym (comes done w.0))
-      (record { answer = ap answer_of g.0 ∙ ap whole w.1; stream = g.1; cells = cells })
+  pub never : (a : Answer) → (a.number ≡ 0 → ⊥) → (a.number ≡ 22 → ⊥) → encoded_as a → ⊥
+  never = says_other m held (length lent) g.long room
 
-  pub gives-stopped : (count offset byte place : ℕ) → record { number = 22; count = count; place = offset; value = byte }
-      ≡ (encode_on m (length lent) held).answer
-      → place ≡ r.total - r.held_len + offset
-      → (d.answer ≡ Err (Stopped count place byte)) × (record_of d.stream ≡ stopped_at r.total place byte)
-      → Answered (call_on m r (end lent)) d lent out
-  gives-stopped count offset byte place e p g =
-      let w = says_none m held (length lent) long room count offset byte e in
-      subst (λ (x : spec.Called). Answered x d lent out) (sym (comes (failed offset byte) w.0))
-      (record {
-        answer = ap answer_of g.0 ∙ ap₂ (λ (k q : ℕ). record { number = 22; count = k; place = q; value = byte }) w.1 p;
-        stream = g.1 ∙ ap (λ (q : ℕ). stopped_at r.total q byte) p;
-        cells = cells;
-      })
+  module _ (out : List ℕ) (d : Called) (written : out ≡ over (encode_on m (length lent) held).cells lent) where
+    abbrev handed : List ℕ
+    handed = (scan_on m 0 0 held).ids
+
+    comes : (x : End) → (scan_on m 0 0 held).end ≡ x → call_on m r (end lent) ≡ closed r.total handed (later_end (r.total - r.held_len) x)
+    unfolding goes_through
+    comes x w =
+        call-through m r (end lent) (goes ∙ end_ready m r lent small)
+        ∙ ap (λ (v : Scan). closed r.total v.ids v.end)
+        (ap (λ (p : ℕ). scan_on m p 0 held) (sym (add-zero (r.total - r.held_len))) ∙ shifts m (r.total - r.held_len) 0 0 held)
+        ∙ ap (λ (y : End). closed r.total handed (later_end (r.total - r.held_len) y)) w
+
+    cells : out ≡ over handed lent
+    cells = written ∙ ap (λ (l : List ℕ). over l lent) (its-cells m held (length lent) g.long room)
+
+    pub gives-closed : (count : ℕ) → encoded_as (whole count) → (d.answer ≡ Ok count) × (record_of d.stream ≡ holding 2 r.total [])
+        → Answered (call_on m r (end lent)) d lent out
+    gives-closed count e h =
+        let w = says-whole m held (length lent) g.long room count e in
+        subst (λ (x : spec.Called). Answered x d lent out) (sym (comes done w.0))
+        (record { answer = ap answer_of h.0 ∙ ap whole w.1; stream = h.1; cells = cells })
+
+    pub gives-stopped : (count offset byte place : ℕ) → encoded_as (record { number = 22; count = count; place = offset; value = byte })
+        → place ≡ r.total - r.held_len + offset
+        → (d.answer ≡ Err (Stopped count place byte)) × (record_of d.stream ≡ stopped_at r.total place byte)
+        → Answered (call_on m r (end lent)) d lent out
+    gives-stopped count offset byte place e p h =
+        let w = says_none m held (length lent) g.long room count offset byte e in
+        subst (λ (x : spec.Called). Answered x d lent out) (sym (comes (failed offset byte) w.0))
+        (record {
+          answer = ap answer_of h.0 ∙ ap₂ (λ (k q : ℕ). record { number = 22; count = k; place = q; value = byte }) w.1 p;
+          stream = h.1 ∙ ap (λ (q : ℕ). stopped_at r.total q byte) p;
+          cells = cells;
+        })

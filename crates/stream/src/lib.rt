@@ -5,9 +5,8 @@
 ghost use Rattle.std.specs.Prelude.{◌≡◌, List, [], ◌++◌, ℕ, ◌+◌, ◌-◌, ◌≤◌, length, take};
 ghost use Rattle.spec.specs.Stream as spec;
 ghost use Rattle.memory.specs.Lent.{cells_of};
-ghost use Rattle.stream_record.specs.Answers.{record_of, Answered};
-ghost use Rattle.runs.specs.Running.{run_from};
-ghost use Rattle.stream.specs.Handing.{reached, Hands};
+ghost use Rattle.stream_record.specs.Answers.{record_of, refusal_of, Answered};
+ghost use Rattle.stream.specs.Handing.{reached, refusal, Hands};
 
 use encoding::EncodeError;
 use memory::Memory;
@@ -41,25 +40,18 @@ fn join<'a>(held: &[u8], piece: &[u8], window: &'a mut [u8; 508]) -> &'a [u8]
     &window[..n + more]
 }
 
-// The rest of an add, from a place of its piece on, after `count` ids.
-fn take_rest(
-    memory: Memory,
-    total: u32,
-    piece: &[u8],
-    from: usize,
-    out: &mut [u32],
-    count: usize,
-) -> Called
-    requires { (from ≤ length piece.now) × (256 ≤ length memory.single.now) × (65536 ≤ length memory.roots.now)
-        × (total + length piece.now ≤ 4294967295) × (count + (length piece.now - from) ≤ length out.old) }
-    ensures { (before : List ℕ) → length before ≡ count
-        → Hands (total + length piece.now) before (run_from (cells_of memory.entry) total piece.now from) out.old out.new result }
+// The rest of an add, over the bytes of its piece that are left, after `before` ids; the first of them stands at the offset `start`.
+fn take_rest(memory: Memory, start: u32, rest: &[u8], out: &mut [u32], before: usize) -> Called
+    requires { (256 ≤ length memory.single.now) × (65536 ≤ length memory.roots.now)
+        × (start + length rest.now ≤ 4294967295) × (length rest.now ≤ length out.old) × (before + length rest.now ≤ 18446744073709551615) }
+    ensures { (ids : List ℕ) → length ids ≡ before
+        → Hands (start + length rest.now) ids (spec.run_on (cells_of memory.entry) start 0 rest.now) out.old out.new result }
 {
-    let all = total + piece.len() as u32;
-    match runs::run(memory, piece, from, piece.len(), out, count) {
-        Ran::Through { at, count } => opened(all, &piece[at..], count),
-        Ran::Waiting { at, count } => opened(all, &piece[at..], count),
-        Ran::Stuck { at, count } => stopped(all, total + at as u32, piece[at], count),
+    let all = start + rest.len() as u32;
+    match runs::run(memory, rest, rest.len(), out) {
+        Ran::Through { at, count } => opened(all, &rest[at..], before + count),
+        Ran::Waiting { at, count } => opened(all, &rest[at..], before + count),
+        Ran::Stuck { at, count } => stopped(all, start + at as u32, rest[at], before + count),
     }
 }
 
@@ -76,30 +68,44 @@ fn take_piece(memory: Memory, total: u32, held: &[u8], piece: &[u8], out: &mut [
     let start = total - n as u32;
     let mut window = [0; 508];
     let joined = join(held, piece, &mut window);
-    match runs::run(memory, joined, 0, n, out, 0) {
-        Ran::Through { at, count } => take_rest(memory, total, piece, at - n, out, count),
+    match runs::run(memory, joined, n, out) {
+        Ran::Through { at, count } => {
+            let over = at - n;
+            take_rest(
+                memory,
+                total + over as u32,
+                &piece[over..],
+                &mut out[count..],
+                count,
+            )
+        }
         Ran::Waiting { at, count } => opened(all, &joined[at..], count),
         Ran::Stuck { at, count } => stopped(all, start + at as u32, joined[at], count),
     }
+}
+
+// Whether a call goes through with a piece and an output of these lengths: number 1, then the refusals of the record.
+fn ready(memory: Memory, stream: Stream, piece: usize, out: usize) -> Result<(), StreamError>
+    ensures { (bytes cells : List ℕ) → length bytes ≡ piece → length cells ≡ out
+        → refusal_of result ≡ refusal (cells_of memory.entry) (record_of stream) (spec.add bytes cells) }
+{
+    if memory.too_short() {
+        return Err(StreamError::ShortMemory);
+    }
+    stream_record::refused_by(stream, piece, out)
 }
 
 /// The next piece: every id that it decides is handed out, and the bytes from the first undecided position on are held.
 pub fn add(memory: Memory, stream: Stream, piece: &[u8], out: &mut [u32]) -> Called
     ensures { Answered (spec.call_on (cells_of memory.entry) (record_of stream) (spec.add piece.now out.old)) result out.old out.new }
 {
-    if memory.too_short() {
-        return Called {
-            stream,
-            answer: Err(StreamError::ShortMemory),
-        };
-    }
-    if let Err(refusal) = stream_record::refused_by(stream, piece.len(), out.len()) {
+    if let Err(refusal) = ready(memory, stream, piece.len(), out.len()) {
         return Called {
             stream,
             answer: Err(refusal),
         };
     }
-    let held = &stream.held[..stream.held_len as usize];
+    let held = &stream.held[..usize::from(stream.held_len)];
     take_piece(memory, stream.total, held, piece, out)
 }
 
@@ -107,21 +113,15 @@ pub fn add(memory: Memory, stream: Stream, piece: &[u8], out: &mut [u32]) -> Cal
 pub fn end(memory: Memory, stream: Stream, out: &mut [u32]) -> Called
     ensures { Answered (spec.call_on (cells_of memory.entry) (record_of stream) (spec.end out.old)) result out.old out.new }
 {
-    if memory.too_short() {
-        return Called {
-            stream,
-            answer: Err(StreamError::ShortMemory),
-        };
-    }
-    if let Err(refusal) = stream_record::refused_by(stream, 0, out.len()) {
+    if let Err(refusal) = ready(memory, stream, 0, out.len()) {
         return Called {
             stream,
             answer: Err(refusal),
         };
     }
     let total = stream.total;
-    let start = total - stream.held_len as u32;
-    let held = &stream.held[..stream.held_len as usize];
+    let start = total - u32::from(stream.held_len);
+    let held = &stream.held[..usize::from(stream.held_len)];
     match encoding::encode_sequential_bytes(memory, held, out) {
         Ok(count) => closed(total, count),
         Err(

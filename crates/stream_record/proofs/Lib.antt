@@ -1,2 +1,2 @@
--- The refusals of a stream call, and what a call comes to.
+-- The refusals of a stream call.
 pub mod Refusing

@@ -1,4 +1,4 @@
--- The refusals of a stream call, case by case, and what a call comes to that is refused or goes through. Assumes nothing.
+-- The refusals of a stream call, and what holds where there is none. Assumes nothing.
 use mathlib.Core.Path.{◌≡◌, refl, sym}
 use mathlib.Core.Bool.{Bool, true, false, ◌||◌, true≢false}
 use Rattle.std.specs.Prelude.{None, Some}
@@ -8,9 +8,8 @@ use native.Mathlib.Omega.{arith}
 use lib.Dec.{eqb, leb, ltb}
 use lib.ListN.{length}
 use borrow.Author.Tests.{le-ltb, ltb-false}
-use Rattle.spec.specs.Answer.{Answer, bare}
-use Rattle.spec.specs.Memory.{Memory, too_short}
-use Rattle.spec.specs.Stream.{StreamRecord, Call, add, end, call_refusal, unchanged, goes_through, call_on}
+use Rattle.spec.specs.Answer.{Answer}
+use Rattle.spec.specs.Stream.{StreamRecord, add, end, call_refusal}
 
 -- ── Tests joined by "or" ─────────────────────────────────────────────
 
@@ -35,7 +34,7 @@ pub record Passes (r : StreamRecord) (piece out : ℕ) : Type 0 where
 
 -- ── A call that goes through ─────────────────────────────────────────
 
-absurd_none : {a : Answer} {A : Type 0} → Some a ≡ None → A
+pub absurd_none : {a : Answer} {A : Type 0} → Some a ≡ None → A
 absurd_none e = let z : ◌≡◌ {A = ℕ} 0 1 = cc in absurd (omega arith)
 
 module _ (r : StreamRecord) (piece out : List ℕ) where
@@ -75,17 +74,3 @@ end_as_add r out h = go (has_ended r) refl (eqb r.phase 1) refl
     go true p b q = rw (p, call_refusal)
     go false p true q = rw (p, call_refusal) (rw q)
     go false p false q = rw (p, call_refusal) (rw q (rw fits))
-
-module _ (m : Memory) (r : StreamRecord) (c : Call) where
-  pub call-short : too_short m ≡ true → call_on m r c ≡ unchanged r (bare 1)
-  unfolding call_on
-  call-short e = rw (e, call_on)
-
-  module _ (long : too_short m ≡ false) where
-    pub call-refused : (a : Answer) → Some a ≡ call_refusal r c → call_on m r c ≡ unchanged r a
-    unfolding call_on
-    call-refused a e = rw (long, call_on) (rw (sym e))
-
-    pub call-through : None ≡ call_refusal r c → call_on m r c ≡ goes_through m r c
-    unfolding call_on
-    call-through e = rw (long, call_on) (rw (sym e))

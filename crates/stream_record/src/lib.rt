@@ -16,8 +16,7 @@ pub const STOPPED: u8 = 1;
 pub const ENDED: u8 = 2;
 
 /// A stream between two calls: the bytes taken in all, those from the first undecided position on, and where it stopped.
-// Kept: the C interface; a C program lays the record out, so that the held bytes are an array beside their number, and where it
-// stopped stands beside the phase.
+// Kept: C programs lay this out: the held bytes are an array beside their number, and where it stopped stands beside the phase.
 #[repr(C)]
 #[derive(Clone, Copy)]
 pub struct Stream {
@@ -48,7 +47,7 @@ pub enum StreamError {
     Stopped { count: usize, offset: u32, byte: u8 },
 }
 
-/// A call's answer, how many ids it handed out, and the record that it leaves.
+/// A call's answer, which says how many ids it handed out, and the record that it leaves.
 #[derive(Clone, Copy)]
 pub struct Called {
     pub stream: Stream,

@@ -104,8 +104,8 @@ impl From<Result<usize, EncodeError>> for Outcome {
 }
 
 // A stream that is given these pieces, and then ended; its ids go to `ids`. Each call, by its piece or the word `end`, goes to `seen` with
-// its outcome and the cells that it wrote to.
-fn feed<F: FnMut(&[u8], Outcome, &[u32]) -> io::Result<()>>(
+// why it went no further, if it did not, and the ids that it handed out.
+fn feed<F: FnMut(&[u8], Option<Refused>, &[u32]) -> io::Result<()>>(
     memory: Memory,
     start: Stream,
     pieces: &[&[u8]],
@@ -115,30 +115,29 @@ fn feed<F: FnMut(&[u8], Outcome, &[u32]) -> io::Result<()>>(
     requires { F.IsAlwaysCallable seen }
 {
     let mut now = start;
-    // Kept: each call writes to what is left of one output, and may be refused for how little that is.
+    // Kept: without `n`, each turn ends in `(given, left) = mem::take(&mut left).split_at_mut(count)`, and the sum of the counts stays.
     let mut n = 0;
     for piece in pieces {
         let called = stream::add(memory, now, piece, &mut ids[n..]);
         let outcome = Outcome::from(called.answer);
-        seen(piece, outcome, &ids[n..])?;
+        let end = ids.len().min(n.saturating_add(outcome.count));
+        seen(piece, outcome.refused, &ids[n..end])?;
         now = called.stream;
-        n = ids.len().min(n.saturating_add(outcome.count));
+        n = end;
     }
     let called = stream::end(memory, now, &mut ids[n..]);
     let last = Outcome::from(called.answer);
-    seen(b"end", last, &ids[n..])?;
-    Ok(Outcome {
-        count: n.saturating_add(last.count),
-        ..last
-    })
+    let count = ids.len().min(n.saturating_add(last.count));
+    seen(b"end", last.refused, &ids[n..count])?;
+    Ok(Outcome { count, ..last })
 }
 
 // A piece or the word end, the ids handed out, and the refusal if there is one.
-fn say(rt: &impl Print, piece: &[u8], outcome: Outcome, ids: &[u32]) -> io::Result<()> {
+fn say(rt: &impl Print, piece: &[u8], refused: Option<Refused>, ids: &[u32]) -> io::Result<()> {
     rt.write_all(piece)?;
     print!(rt; ":")?;
-    write_ids(rt, ids, outcome.count)?;
-    if let Some(refused) = outcome.refused {
+    write_ids(rt, ids)?;
+    if let Some(refused) = refused {
         print!(rt; " {refused}")?;
     }
     println!(rt)
@@ -152,8 +151,8 @@ fn show_into(
     pieces: &[&[u8]],
     ids: &mut [u32],
 ) -> io::Result<()> {
-    feed(memory, start, pieces, ids, |piece, outcome, ids| {
-        say(rt, piece, outcome, ids)
+    feed(memory, start, pieces, ids, |piece, refused, ids| {
+        say(rt, piece, refused, ids)
     })?;
     println!(rt)
 }
@@ -248,6 +247,7 @@ fn differing(alloc: Global, memory: Memory, codes: u32) -> io::Result<u32> {
 }
 
 // The memory of V and of 255 times x.
+// Kept: as the cells of `replay`, with another part left out and other makers.
 #[derive(Drop)]
 struct Vocabulary {
     single: Vec<i32>,
@@ -288,10 +288,12 @@ impl Vocabulary {
 }
 
 // The words of 255 times x: a node of n bytes has the base 256 n.
+// Kept: roots and table, which have words; `Vocabulary` is made of them when they are done.
 fn chain(roots: &mut [u64], table: &mut [u64])
     requires { (65536 ≤ length roots.old) × (65280 ≤ length table.old) }
 {
     roots[0x7878] = 0x20000000000;
+    // Kept: the word at 256 n has the base of n + 1, so that the number is wanted and no cell is passed over.
     for n in 2..254 {
         table[256 * n + 0x78] = base_word(n as u64 + 1);
     }

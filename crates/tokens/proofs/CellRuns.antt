@@ -7,6 +7,7 @@ use native.Mathlib.Omega.{arith}
 use lib.ListN.{length, take, drop, get_or, set, replicate, length-append, length-set, take-append-drop}
 use lib.Seq.{sets, sets-eq, get_or-set_same, get_or-set_other, drop-set-lt, take_at, drop_at, drop-drop, length-take-le}
 use lib.Seq.{get_or-take, ext_get_or}
+use Rattle.std.proofs.lemmas.List.{drop-replicate}
 use Rattle.spec.specs.Lists.{up_from, over}
 use Rattle.spec.specs.Memory.{padded}
 use Rattle.laws.specs.Listed.{up_length, up_at}
@@ -40,12 +41,6 @@ module _ {A : Type 0} where
   run-behind (v ∷ vs) l from n h = run-behind vs (set l from v) (suc from) n (omega arith) ∙ drop-set-lt n l from v (omega arith)
 
 -- ---- content with zeros behind it
-
-drop-replicate : {A : Type 0} (k n : ℕ) (v : A) → drop k (replicate n v) ≡ replicate (n - k) v
-drop-replicate zero n v = let p : n - 0 ≡ n = omega arith in ap (λ (x : ℕ). replicate x v) (sym p)
-drop-replicate (suc k) zero v = let p : zero - suc k ≡ 0 = omega arith in ap (λ (x : ℕ). replicate x v) (sym p)
-drop-replicate (suc k) (suc n) v = let p : suc n - suc k ≡ n - k = omega arith in drop-replicate k n v
-    ∙ ap (λ (x : ℕ). replicate x v) (sym p)
 
 drop-zeros : (l : List ℕ) (k n m : ℕ) → drop k l ≡ replicate n 0 → drop (k + m) l ≡ replicate (n - m) 0
 drop-zeros l k n m e = sym (drop-drop m k l) ∙ ap (drop m) e ∙ drop-replicate m n 0

@@ -28,11 +28,14 @@ use Rattle.laws.specs.Bounds.{node_count-small}
 use Rattle.loading.specs.Accepted.{Reads, valid_snoc}
 use Rattle.nodes.specs.Run.{Nodes, room}
 use Rattle.nodes.specs.Stands.{Stands, Grown, answer_for}
+use Rattle.nodes.proofs.Chains.{bytes_of}
 use Rattle.nodes.proofs.InsertionMeans.{seen-id, stands_one, nodes-one}
 use Rattle.std.specs.Prelude.{Result, Ok, Err}
 use Rattle.refusals.specs.Numbers.{number}
 use Rattle.refusals.specs.declared.Refusal.{Refusal}
 use Rattle.refusals.specs.declared.Refusal.TheVariants.{SeenBefore, NodesFull, BlobFull}
+use Rattle.entry.specs.TokenOf.{token_of}
+use Rattle.entry.specs.declared.Entry.{Entry}
 use Rattle.tokens.specs.Built.{Built, Kept, Counts, room_for, PushedAs, is_taken, one_entered, set_single, set_offsets}
 use Rattle.tokens.proofs.CellRuns.{run-before, run_in, run-behind, pad-more, by_index}
 use Rattle.tokens.specs.declared.Build.{Build}
@@ -139,7 +142,7 @@ answer_full ts v t n (inr e) q =
 
 -- ---- a token of one byte: its cell of `single` says whether it was seen
 
-taken_is : (n : ℕ) → is_taken (id_or_none n) ≡ not (eqb n 0)
+pub taken_is : (n : ℕ) → is_taken (id_or_none n) ≡ not (eqb n 0)
 taken_is zero = refl
 taken_is (suc n) = sym (ap not (ne_eqb (suc n) 0 (λ e. omega arith)))
 
@@ -279,6 +282,26 @@ module _ (ts : List Token) (t : Token) (ns : Nodes) (bl rs' : List ℕ) (ns' : N
 
 -- ---- the token's own cells
 
+-- the offsets behind the last id, up to one above it
+module _ {ts : List Token} {s : List ℤ} {os bl rs : List ℕ} {ns : Nodes} {st : Build} (B : Built ts s os bl rs ns st) (id : ℕ)
+    (above : st.previous < id) (long : id < length os) where
+  pub offsets_at : (i : ℕ) → i ≤ id → get_or (set_offsets os st.previous id st.used) i 0 ≡ length_before ts i
+  offsets_at i h = go (either (leb i st.previous))
+    where
+      go : Tested (leb i st.previous) → get_or (set_offsets os st.previous id st.used) i 0 ≡ length_before ts i
+      go (inl e) =
+          let p = leb-true i st.previous e in
+          run-before (replicate (id - st.previous) st.used) os (st.previous + 1) i 0 (omega arith) ∙ B.offsets i p
+      go (inr e) =
+          let p = leb-false i st.previous e in
+          let k : st.previous + 1 + (i - (st.previous + 1)) ≡ i = omega arith in
+          let l = length-replicate (id - st.previous) st.used in
+          let q = B.previous in
+          ap (λ (x : ℕ). get_or (set_offsets os st.previous id st.used) x 0) (sym k)
+          ∙ run_in (replicate (id - st.previous) st.used) os (st.previous + 1) (i - (st.previous + 1)) 0 (omega arith) (omega arith)
+          ∙ get_or-replicate (id - st.previous) (i - (st.previous + 1)) st.used 0 (omega arith)
+          ∙ B.used ∙ sym (before-all ts i (λ u m. let w = last_most 0 ts B.valid.rising u m in omega arith))
+
 module _ {ts : List Token} {s : List ℤ} {os bl rs : List ℕ} {ns : Nodes} {st : Build} (B : Built ts s os bl rs ns st) (t : Token)
     (r : Reads (last_id ts) t)
     (new : seen ts t.bytes ≡ false) (single-fits : 256 ≤ length s) (offsets-fit : 65537 ≤ length os)
@@ -344,30 +367,12 @@ module _ {ts : List Token} {s : List ℤ} {os bl rs : List ℕ} {ns : Nodes} {st
       by_index (set_single s t.id bs) (λ (c : ℕ). id_or_none (id_of ts' (c ∷ []))) 256 (pos 0) (let e = single-length in omega arith)
       single_more
 
-  -- every id so far is at most the last
-  id-last : (u : Token) → Mem u ts → u.id ≤ st.previous
-  id-last u m = let e = B.previous in let k = last_most 0 ts B.valid.rising u m in omega arith
-
   offsets-more : (i : ℕ) → i ≤ t.id → get_or (set_offsets os st.previous t.id st.used) i 0 ≡ length_before ts' i
-  offsets-more i h = go (either (leb i st.previous))
-    where
-      go : Tested (leb i st.previous) → get_or (set_offsets os st.previous t.id st.used) i 0 ≡ length_before ts' i
-      go (inl e) =
-          let p = leb-true i st.previous e in
-          run-before (replicate (t.id - st.previous) st.used) os (st.previous + 1) i 0 (omega arith) ∙ B.offsets i p
-          ∙ sym (before-snoc ts t i h)
-      go (inr e) =
-          let p = leb-false i st.previous e in
-          let a = r.above in
-          let q = B.previous in
-          let k : st.previous + 1 + (i - (st.previous + 1)) ≡ i = omega arith in
-          let l = length-replicate (t.id - st.previous) st.used in
-          let z = r.small in
-          ap (λ (x : ℕ). get_or (set_offsets os st.previous t.id st.used) x 0) (sym k)
-          ∙ run_in (replicate (t.id - st.previous) st.used) os (st.previous + 1) (i - (st.previous + 1)) 0 (omega arith)
-          (omega arith)
-          ∙ get_or-replicate (t.id - st.previous) (i - (st.previous + 1)) st.used 0 (omega arith)
-          ∙ B.used ∙ sym (before-all ts i (λ u mu. let w = id-last u mu in omega arith)) ∙ sym (before-snoc ts t i h)
+  offsets-more i h =
+      let a = r.above in
+      let q = B.previous in
+      let z = r.small in
+      offsets_at B t.id (omega arith) (omega arith) i h ∙ sym (before-snoc ts t i h)
 
   blob-more : sets bl st.used bs ≡ padded (blob_bytes ts') (length bl)
   blob-more =
@@ -405,7 +410,7 @@ single_kept s id bs h = go (eqb (length bs) 1)
     go true = drop-set-lt 256 s (get_or bs 0 0) (pos id) h
     go false = refl
 
-pub offsets_kept : (os : List ℕ) (previous id total : ℕ) → previous < id → id < 65536 → drop 65537 (set_offsets os previous id total)
+pub offsets_kept : (os : List ℕ) (previous id total : ℕ) → previous < id → id ≤ 65536 → drop 65537 (set_offsets os previous id total)
     ≡ drop 65537 os
 offsets_kept os previous id total h k =
     run-behind (replicate (id - previous) total) os (previous + 1) 65537 (let l = length-replicate (id - previous) total in omega arith)
@@ -439,18 +444,20 @@ module _ {ts : List Token} {s : List ℤ} {os bl rs : List ℕ} {ns : Nodes} {st
   pub admits_none : (table : ℕ) → admit (room_for ns bl table) ts t ≡ refuse 17
   admits_none table = push-refused ts t ns bl rs ns table NodesFull enter-none
 
--- a token with an id above the last one and 1 to 255 bytes
-pub reads_of : {ts : List Token} {s : List ℤ} {os bl rs : List ℕ} {ns : Nodes} {st : Build} → Built ts s os bl rs ns st → (t : Token)
-    → st.previous < t.id → t.id < 65536
-    → 1 ≤ length t.bytes → length t.bytes ≤ 255 → Bytes t.bytes → Reads (last_id ts) t
-reads_of B t a b c d e = record { above = (let k = B.previous in omega arith); small = b; nonempty = c; short = d; bytes = e }
+-- a token with an id above the last one
+pub reads_of : {ts : List Token} {s : List ℤ} {os bl rs : List ℕ} {ns : Nodes} {st : Build} → Built ts s os bl rs ns st → (t : Entry)
+    → st.previous < t.id → t.id < 65536 → Reads (last_id ts) (token_of t)
+reads_of B t a b = record {
+  above = (let k = B.previous in omega arith);
+  small = b;
+  nonempty = t.some;
+  short = t.short;
+  bytes = bytes_of t.bytes.now t.fits;
+}
 
 pub same-built : {ts : List Token} {s s' : List ℤ} {os os' bl bl' rs : List ℕ} {ns : Nodes} {st : Build} → s' ≡ s → os' ≡ os → bl' ≡ bl
     → Built ts s os bl rs ns st → Built ts s' os' bl' rs ns st
-same-built {ts} {s} {s'} {os} {os'} {bl} {bl'} {rs} {ns} {st} a b c B =
-    subst (λ (x : List ℤ). Built ts x os' bl' rs ns st) (sym a)
-    (subst (λ (x : List ℕ). Built ts s x bl' rs ns st) (sym b)
-    (subst (λ (x : List ℕ). Built ts s os x rs ns st) (sym c) B))
+same-built a b c B = rw (a, b, c) B
 
 module _ {ts : List Token} {s : List ℤ} {os bl rs : List ℕ} {ns : Nodes} {st : Build} (B : Built ts s os bl rs ns st) (t : Token)
     (r : Reads (last_id ts) t)
@@ -486,6 +493,6 @@ pub all-kept : {s s' : List ℤ} {os os' rs rs' : List ℕ} (bs : List ℕ) (pre
     → s' ≡ set_single s id bs → os' ≡ set_offsets os previous id total → drop 65536 rs' ≡ drop 65536 rs → Kept s os rs s' os' rs'
 all-kept {s} {s'} {os} bs previous id total h a b es eo er = record {
   single = ap (drop 256) es ∙ single_kept s id bs h;
-  offsets = ap (drop 65537) eo ∙ offsets_kept os previous id total a b;
+  offsets = ap (drop 65537) eo ∙ offsets_kept os previous id total a (omega arith);
   roots = er;
 }

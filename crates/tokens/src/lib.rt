@@ -10,17 +10,19 @@ ghost use Rattle.spec.specs.Check.{refuse};
 ghost use Rattle.spec.specs.Load.{admit, last_id};
 ghost use Rattle.laws.specs.Reads.{LongEnough};
 ghost use Rattle.loading.specs.Accepted.{Reads};
+ghost use Rattle.entry.specs.TokenOf.{token_of};
 ghost use Rattle.memory.specs.Lent.{cells_in, SameSlices};
 ghost use Rattle.nodes.specs.Run.{Nodes, room};
 ghost use Rattle.nodes.specs.Stands.{Grown};
 ghost use Rattle.tokens.specs.Built.{Built, BuiltIn, KeptIn, Counts, Small, room_for, PushedIn, is_taken, set_single, set_offsets};
 ghost use Rattle.tokens.specs.Built.{one_entered};
 
+use entry::Entry;
 use memory::MemoryMut;
 use refusals::Refusal;
 
 /// A build under way: the last id, and how many tokens, nodes (node 0 counted) and blob bytes there are.
-// Kept: that its numbers are small stays a `requires`: it holds of the builds of valid tokens, which no field here names.
+// Kept: that its numbers are small follows only from the tokens, which no field holds: of a token more, a ghost field could not be shown.
 #[derive(Clone, Copy)]
 pub struct Build {
     pub previous: u16,
@@ -74,7 +76,7 @@ pub fn taken(x: i32) -> bool
 pub fn capacity(nodes: usize) -> u32
     ensures { result ≡ min nodes 4294967295 }
 {
-    nodes.min(4294967295) as u32
+    u32::try_from(nodes).unwrap_or(u32::MAX)
 }
 
 // A token of one byte has its id in `single`.
@@ -119,40 +121,39 @@ pub fn is_full(most: u32, made: u32) -> bool
 }
 
 // The token's own cells.
-fn write(single: &mut [i32], offsets: &mut [u32], blob: &mut [u8], st: Build, id: u16, bytes: &[u8])
-    requires { (256 ≤ length single.old) × (65537 ≤ length offsets.old) × (st.previous < id)
-        × (st.used + length bytes.now ≤ length blob.old) }
-    ensures single { single.new ≡ set_single single.old id bytes.now }
-    ensures offsets { offsets.new ≡ set_offsets offsets.old st.previous id st.used }
-    ensures blob { blob.new ≡ sets blob.old st.used bytes.now }
+// Kept: that the id is above the last one relates a build and a token; no type of either says it. Single slices, for short goals.
+fn write(single: &mut [i32], offsets: &mut [u32], blob: &mut [u8], st: Build, token: Entry)
+    requires { (256 ≤ length single.old) × (65537 ≤ length offsets.old) × (st.previous < token.id)
+        × (st.used + length token.bytes.now ≤ length blob.old) }
+    ensures single { single.new ≡ set_single single.old token.entry.id token.entry.bytes.now }
+    ensures offsets { offsets.new ≡ set_offsets offsets.old st.previous token.entry.id st.used }
+    ensures blob { blob.new ≡ sets blob.old st.used token.entry.bytes.now }
 {
-    set_single(single, id, bytes);
-    set_offsets(offsets, st.previous, u32::from(id), st.used);
+    set_single(single, token.id, token.bytes);
+    set_offsets(offsets, st.previous, u32::from(token.id), st.used);
     let from = st.used as usize;
-    blob[from..from + bytes.len()].copy_from_slice(bytes);
+    blob[from..from + token.bytes.len()].copy_from_slice(token.bytes);
 }
 
 /// One more token, whose bytes are among the nodes already, or 16, 17 or 18. Roots and table stay as they are.
 pub fn push_entered(
     memory: &mut MemoryMut,
     st: Build,
-    id: u16,
-    bytes: &[u8],
+    token: Entry,
     entered: Result<u32, Refusal>,
 ) -> Result<Build, Refusal>
-    requires { (256 ≤ length memory.old.single.now) × (65537 ≤ length memory.old.offsets.now) × (1 ≤ length bytes.now)
-        × (length bytes.now ≤ 255) × (st.previous < id) × Small st }
+    requires { (256 ≤ length memory.old.single.now) × (65537 ≤ length memory.old.offsets.now) × (st.previous < token.id) × Small st }
     ensures stands { (table : ℕ) (ts : List Token) (rs : List ℕ) (ns ns' : Nodes)
         → Built ts memory.old.single.now memory.old.offsets.now memory.old.blob.now rs ns st
-        → (Reads (last_id ts) (record { id = id; bytes = bytes.now })
-        → Grown ts (record { id = id; bytes = bytes.now }) (room ns) entered memory.old.roots.now ns') → length ns' ≡ length ns
-        → PushedIn (room_for ns memory.old.blob.now table) ts (record { id = id; bytes = bytes.now }) result memory.new ns' }
+        → (Reads (last_id ts) (token_of token.entry)
+        → Grown ts (token_of token.entry) (room ns) entered memory.old.roots.now ns') → length ns' ≡ length ns
+        → PushedIn (room_for ns memory.old.blob.now table) ts (token_of token.entry) result memory.new ns' }
     ensures kept { KeptIn memory.old memory.new }
     ensures rest { (memory.new.roots.now ≡ memory.old.roots.now) × (memory.new.table.now ≡ memory.old.table.now) }
     ensures same { SameSlices memory.old memory.new }
 {
     let made = entered?;
-    if memory.blob.len() < st.used as usize + bytes.len() {
+    if memory.blob.len() < st.used as usize + token.bytes.len() {
         return Err(Refusal::BlobFull);
     }
     write(
@@ -160,8 +161,7 @@ pub fn push_entered(
         &mut *memory.offsets,
         &mut *memory.blob,
         st,
-        id,
-        bytes,
+        token,
     );
-    Ok(st.counted(id, made, bytes.len()))
+    Ok(st.counted(token.id, made, token.bytes.len()))
 }

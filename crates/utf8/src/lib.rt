@@ -1,4 +1,4 @@
-// UTF-8 by RFC 3629: what stands at a place of a byte string, and the first ill-formed place. Every public function takes any input, and
+// UTF-8 by RFC 3629: what a byte string begins with, and its first ill-formed place. Every public function takes any input, and
 // its contract is an equation with a definition of `spec`.
 #![tactic(auto)]
 
@@ -20,7 +20,19 @@ impl Lead {
     pub fn allows(self, b: u8) -> bool
         ensures { result ≡ within (self.low to self.high) b }
     {
-        self.low <= b && b <= self.high
+        (self.low..=self.high).contains(&b)
+    }
+
+    /// What must follow once the first of these bytes has.
+    #[tactic(auto, using(crate::proofs::StepTurns::ranges_behind))]
+    pub fn behind(self) -> Lead
+        ensures { lead_means result ≡ drop 1 (lead_means self) }
+    {
+        Lead {
+            more: self.more.saturating_sub(1),
+            low: 0x80,
+            high: 0xbf,
+        }
     }
 }
 
@@ -44,8 +56,9 @@ pub fn lead_of(b: u8) -> Option<Lead>
     Some(Lead { more, low, high })
 }
 
-/// What stands at a place of a byte string: a character, a maximal ill-formed part, or the beginning of a character that the end
-/// cuts off, each with its number of bytes.
+/// What a byte string begins with: a character, a maximal ill-formed part, or the beginning of a character that the end cuts off, each
+/// with its number of bytes.
+// Kept: `step_of` tells the three apart; a Result<usize, usize> would no more say of a bad part whether the end cuts it off.
 #[derive(Clone, Copy, Debug, PartialEq, Eq)]
 pub enum Step {
     Char(usize),
@@ -53,19 +66,21 @@ pub enum Step {
     Cut(usize),
 }
 
-/// The step at `at`; at or past the end it is cut off after 0 bytes.
+/// The first step of a byte string; with no byte it is cut off after none.
+// Inlined, since `first_bad` takes it for each character past ASCII.
 #[tactic(auto, using(crate::proofs::StepTurns::step_turns))]
-pub fn step_at(s: &[u8], at: usize) -> Step
-    ensures { step_means result ≡ step_of (drop at s.now) }
+#[inline]
+pub fn first_step(rest: &[u8]) -> Step
+    ensures { step_means result ≡ step_of rest.now }
 {
-    let Some(&first) = s.get(at) else {
+    let Some((&first, others)) = rest.split_first() else {
         return Step::Cut(0);
     };
     let Some(lead) = lead_of(first) else {
         return Step::Bad(1);
     };
-    let others = &s[at + 1..];
     let mut left = lead;
+    // Kept: `get(n)` tells a missing byte where it is met; over `others.iter()` that would be one more test behind the loop.
     for n in 0..lead.more {
         let Some(&b) = others.get(n) else {
             return Step::Cut(n + 1);
@@ -73,11 +88,7 @@ pub fn step_at(s: &[u8], at: usize) -> Step
         if !left.allows(b) {
             return Step::Bad(n + 1);
         }
-        left = Lead {
-            more: left.more - 1,
-            low: 0x80,
-            high: 0xbf,
-        };
+        left = left.behind();
     }
     Step::Char(lead.more + 1)
 }
@@ -87,13 +98,13 @@ pub fn step_at(s: &[u8], at: usize) -> Step
 pub fn first_bad(s: &[u8]) -> Option<usize>
     ensures { result ≡ first_bad s.now }
 {
-    // Kept: a character has one to four bytes, so no range gives the places; std's from_utf8 goes by a definition of its own.
+    // Kept: over the rest as a slice it takes up to twice as long; by std's from_utf8 its definition had to be proved RFC 3629's too.
     let mut i = 0;
     while i < s.len() {
         if s[i] < 0x80 {
             i += 1;
         } else {
-            let Step::Char(n) = step_at(s, i) else {
+            let Step::Char(n) = first_step(&s[i..]) else {
                 return Some(i);
             };
             i += n;

@@ -6,7 +6,7 @@
 
 pub mod records;
 
-ghost use Rattle.std.specs.Prelude.{◌≡◌, true, false, ◌≤◌, length, take};
+ghost use Rattle.std.specs.Prelude.{◌≡◌, true, false, ◌≤◌, length, take, Some};
 ghost use Rattle.spec.specs.Load.{table_room, vocabulary, load, start_of, settled, load_on};
 ghost use Rattle.laws.specs.Reads.{LongEnough};
 ghost use Rattle.memory.specs.Lent.{cells_in, SameSlices};
@@ -30,7 +30,7 @@ fn build_records(
     work: &mut Work,
 ) -> Result<Counts, LoadError>
     requires { LongEnough (cells_in memory.old) × (plan.end ≤ length source.now) }
-    ensures built { BuiltAs (form_of plan.form) plan.partial (room_for work.old.nodes.now memory.old.blob.now
+    ensures built { BuiltAs (form_of (Some plan.edition)) plan.partial (room_for work.old.nodes.now memory.old.blob.now
         (table_room (length memory.old.table.now) (length work.old.used.now) (length work.old.used_bases.now)))
         (take plan.end source.now) result (cells_in memory.old) (cells_in memory.new) }
     ensures kept { KeptIn memory.old memory.new }
@@ -39,7 +39,7 @@ fn build_records(
 {
     let begun = tokens::begin(memory);
     let body = &source[..plan.end];
-    let st = records::take_records(body, plan.form, memory, &mut *work.nodes, begun)?;
+    let st = records::take_records(body, Some(plan.edition), memory, &mut *work.nodes, begun)?;
     let words = builder::finish(plan.partial, memory, work, st)?;
     Ok(Counts::of(st, words))
 }
@@ -53,12 +53,13 @@ fn load_records(
 ) -> Result<Counts, LoadError>
     requires { LongEnough (cells_in memory.old) × (plan.end ≤ length source.now) }
     ensures loads { loaded result (cells_in memory.new)
-        ≡ settled (cells_in memory.old) (load (form_of plan.form) plan.partial (room_for work.old.nodes.now memory.old.blob.now
+        ≡ settled (cells_in memory.old) (load (form_of (Some plan.edition)) plan.partial (room_for work.old.nodes.now memory.old.blob.now
         (table_room (length memory.old.table.now) (length work.old.used.now) (length work.old.used_bases.now)))
         (take plan.end source.now)) }
     ensures same { SameSlices memory.old memory.new }
     ensures same_work { SameWork work.old work.new }
 {
+    // Kept: a match, by which the proof has both cases; `is_err` and then the value would be as long.
     match build_records(source, plan, memory, work) {
         Ok(counts) => Ok(counts),
         Err(error) => {
@@ -68,8 +69,9 @@ fn load_records(
     }
 }
 
-/// A load of any bytes, as they are asked for. One thing is loose: what the work memory holds afterwards is anything, but what it was if
-/// the start halts. `load_on` gives all else. For a text this is the Rust's `from_vocab_str_mode`.
+/// A load of any bytes. One thing is loose: the work memory may hold anything afterwards, but where the load is refused before any record
+/// it holds what it held. `load_on` gives all else. For a text this is the Rust's `from_vocab_str_mode`.
+// Kept: memory and work are two: a caller keeps the one and drops the other after the load, so one struct of both is taken apart again.
 pub fn from_source(
     source: &[u8],
     how: How,

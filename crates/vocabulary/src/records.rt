@@ -7,6 +7,7 @@ ghost use Rattle.tokens.specs.Built.{BuiltIn, KeptIn, Small, room_for};
 ghost use Rattle.source.specs.SourceAnswers.{form_of};
 ghost use Rattle.answers.specs.LoadParts.{TakenAs, RecordsAs};
 
+use line::Lines;
 use memory::MemoryMut;
 use nodes::Node;
 use refusals::{LoadError, Place, Refusal};
@@ -20,9 +21,9 @@ fn take_record(
     memory: &mut MemoryMut,
     nodes: &mut [Node],
     build: Build,
-    cells: &mut [u8],
+    cells: &mut [u8; 255],
 ) -> Result<Build, Refusal>
-    requires { LongEnough (cells_in memory.old) × Small build × (255 ≤ length cells.old) }
+    requires { LongEnough (cells_in memory.old) × Small build }
     ensures stands { (ts : List Token) → BuiltIn ts memory.old nodes.old build
         → TakenAs (form_of form) (room_for nodes.old memory.old.blob.now) ts part.now result
         memory.new.single.now memory.new.offsets.now memory.new.blob.now memory.new.roots.now nodes.new }
@@ -30,11 +31,12 @@ fn take_record(
     ensures table { memory.new.table.now ≡ memory.old.table.now }
     ensures same { SameSlices memory.old memory.new }
 {
-    let found = read::read_record(part, form, build.previous, cells)?;
-    builder::push(memory, nodes, build, found.id, &cells[..found.len])
+    let token = read::read_record(part, form, build.previous, cells)?;
+    builder::push(memory, nodes, build, token)
 }
 
 /// The tokens of a source's records, from a build without tokens; or the refusal of one of them, with its line.
+// Kept: an `Option`, since an edition that there is not may be asked for here; an `Edition` would ask more of callers.
 pub fn take_records(
     body: &[u8],
     form: Option<Edition>,
@@ -52,15 +54,12 @@ pub fn take_records(
 {
     let mut cells = [0u8; 255];
     let mut st = build;
-    let mut at = 0;
-    let mut lines = 0;
-    while let Some(line) = line::next_line(body, at) {
-        lines += 1;
-        at = line.next;
-        match take_record(line.bytes, form, memory, nodes, st, &mut cells) {
+    for (n, line) in Lines::new(body).enumerate() {
+        // Kept: tried with `map_err(..)?`, and the proof did not close.
+        match take_record(line, form, memory, nodes, st, &mut cells) {
             Ok(more) => st = more,
             Err(refusal) => {
-                let place = Some(Place::Line(lines));
+                let place = Some(Place::Line(n + 1));
                 return Err(LoadError { refusal, place });
             }
         }

@@ -11,7 +11,8 @@ use mathlib.Core.List.Memᴰ.{not-nil}
 use mathlib.Core.List.Memᴰ.{tail as there}
 use Prim.Native.Nat.{ℕ, zero, suc, ◌+◌, ◌-◌, ◌*◌, ◌/◌, ◌%◌, ◌≤◌, ◌<◌}
 use native.Mathlib.Omega.{arith}
-use lib.ListN.{length, length-append, get_or, set, take, drop, replicate, length-replicate, replicate-append-replicate, get_or-map}
+use lib.ListN.{length, length-append, length-map, get_or, set, take, drop, replicate, length-replicate}
+use lib.ListN.{replicate-append-replicate, get_or-map}
 use lib.Seq.{set-append_left, ext_get_or, get_or-take, length-take-le}
 use lib.Bits.{bit_xor}
 use Rattle.spec.specs.Lists.{each, fold, has, over}
@@ -27,12 +28,15 @@ use Rattle.laws.specs.Chain.{kids}
 use Rattle.laws.specs.Listed.{up_length, up_at}
 use Rattle.laws.specs.Fill.{Write, write, write_all, child_write, writes, in_table, table_filled}
 use Rattle.nodes.specs.Run.{Nodes, see}
-use Rattle.nodes.specs.Stands.{Chain, num, Tree, Roots}
-use Rattle.nodes.proofs.Chains.{final-snoc, number-pos, number_lt, kid_lt, length-map, labels-few, num-in, num-out, member}
+use Rattle.nodes.specs.Stands.{num, Tree, Roots}
+use Rattle.nodes.proofs.Chains.{map_same, final-snoc, number-pos, number_lt, kid_lt, kids-length, labels-few, num-in, num-out, member}
 use Rattle.nodes.specs.declared.Node.{Node}
 use Rattle.laws.specs.Tests.{yes_case, no_case}
-use Rattle.words.specs.NodeWords.{node_word, as_root, child_writes, node_writes, root_word, root_words}
-use Rattle.words.proofs.WordTurns.{children-end, children-on, root_none, root-at}
+use Rattle.words.specs.NodeWords.{node_word, child_put, child_writes, node_writes, root_word, root_words}
+use Rattle.nodes.proofs.ChildWalk.{link-to, walk_chain}
+use Rattle.nodes.specs.Links.{link}
+use Rattle.std.proofs.lemmas.Simd.{map-map}
+use Rattle.words.proofs.WordTurns.{root-none, root-at}
 
 -- the nodes of ts, each with its base
 pub record Based (ts : List Token) (m : Nodes) : Type 0 where
@@ -40,22 +44,6 @@ pub record Based (ts : List Token) (m : Nodes) : Type 0 where
   pub base : (p : List ℕ) → Mem p (nodes ts) → (see m (number (nodes ts) p)).tail ≡ base_of (puts ts) p
 
 -- ---- the children of a node
-
--- along a chain the writes are those of its numbers
-children_chain : (M : ℕ → Node) (made base : ℕ) (l : List ℕ) (f h : ℕ) → length l ≤ f → ((c : ℕ) → Mem c l → c < made)
-    → Chain (λ c. (M c).next) h l
-    → child_writes M made base f h ≡ map (λ c. record { at = bit_xor base (M c).label; val = node_word (M c) (M c).label }) l
-children_chain M made base [] f h n s k = children-end M made base f h k
-children_chain M made base (c ∷ l) zero h n s k = absurd (omega arith)
-children_chain M made base (c ∷ l) (suc f) h n s k =
-    ap (child_writes M made base (suc f)) k.0 ∙ children-on M made base f c (λ z. let a = k.1 in omega arith) (s c (here refl))
-    ∙ ap (λ (r : List Write). record { at = bit_xor base (M c).label; val = node_word (M c) (M c).label } ∷ r)
-    (children_chain M made base l f (M c).next (omega arith) (λ x m. s x (there m)) k.2)
-
-map-through : {A B C : Type 0} (g : B → C) (f : A → B) (h : A → C) (l : List A) → ((x : A) → Mem x l → g (f x) ≡ h x)
-    → map g (map f l) ≡ map h l
-map-through g f h [] e = refl
-map-through {C} g f h (x ∷ l) e = ap₂ (λ (y : C) (r : List C). y ∷ r) (e x (here refl)) (map-through g f h l (λ y m. e y (there m)))
 
 -- ---- all nodes
 
@@ -85,18 +73,17 @@ module _ (ts : List Token) (m : Nodes) (D : Based ts m) where
   pub children-is : (p : List ℕ) → Mem p ps
       → child_writes (see m) (node_count ts) (see m (number ps p)).tail 256 (see m (number ps p)).head
       ≡ map (child_write ts p) (labels ps p)
-  unfolding kids child_write node_count
+  unfolding kids child_write node_count child_put child_writes
   children-is p mp =
-      children_chain (see m) (1 + length ps) (see m (number ps p)).tail (kids ps p) 256 (see m (number ps p)).head
-      (let a = length-map (λ (l : ℕ). number ps (p ++ (l ∷ []))) (labels ps p) in let b = labels-few D.tree p in omega arith)
-      (λ c mc. let h = kid_lt ps p mc in omega arith) (D.tree.node p mp).chain
-      ∙ map-through _ (λ l. number ps (p ++ (l ∷ []))) (child_write ts p) (labels ps p) one
+      ap (map (λ (x : ℕ × Node). child_put (see m (number ps p)).tail x.1))
+      (walk_chain (see m) (1 + length ps) (kids ps p) 256 (see m (number ps p)).head
+      (let a = kids-length ps p in let b = labels-few D.tree p in omega arith)
+      (λ c mc. let h = kid_lt ps p mc in omega arith) (D.tree.node p mp).chain)
+      ∙ map-map (λ (x : ℕ × Node). child_put (see m (number ps p)).tail x.1) (λ c. (c, see m c)) (kids ps p)
+      ∙ map-map _ (λ l. number ps (p ++ (l ∷ []))) (labels ps p) ∙ map_same _ (child_write ts p) (labels ps p) one
     where
       one : (l : ℕ) → Mem l (labels ps p)
-          → ◌≡◌ {A = Write} (record {
-            at = bit_xor (see m (number ps p)).tail (see m (number ps (p ++ (l ∷ [])))).label;
-            val = node_word (see m (number ps (p ++ (l ∷ [])))) (see m (number ps (p ++ (l ∷ [])))).label;
-          })
+          → ◌≡◌ {A = Write} (child_put (see m (number ps p)).tail (see m (number ps (p ++ (l ∷ [])))))
           (record { at = bit_xor (base_of (puts ts) p) l; val = word_of ts (p ++ (l ∷ [])) l })
       one l ml =
           let mc = label-node ps p l ml in
@@ -172,21 +159,20 @@ roots_over ts m rs D R h = ap₂ (λ (l : List ℕ) (k : ℕ). l ++ drop k rs)
     f = root_word (see m) (node_count ts)
 
     len1 : length (map f (take 65536 rs)) ≡ 65536
-    len1 = length-map f (take 65536 rs) ∙ length-take-le 65536 rs h
+    len1 = length-map (take 65536 rs) f ∙ length-take-le 65536 rs h
 
     len2 : length (root_list ts) ≡ 65536
     len2 = unfold root_list in up_length (root_at ts) 65536 0
 
     none_is : 0 ≡ root_word (see m) (node_count ts) 0
-    none_is = root_none (see m) (node_count ts) 0 refl
+    none_is = root-none (see m) (node_count ts) 0 (unfold link in refl)
 
     at : (a b : ℕ) → Mem (a ∷ b ∷ []) ps ⊎ (Mem (a ∷ b ∷ []) ps → ⊥)
         → f (num ps (a ∷ b ∷ [])) ≡ cond (has ps (a ∷ b ∷ [])) (word_of ts (a ∷ b ∷ []) zero) zero
     at a b (inl mp) =
         ap f (num-in mp)
-        ∙ sym (root-at (see m) (node_count ts) (number ps (a ∷ b ∷ [])) (as_root (see m (number ps (a ∷ b ∷ []))))
-        (see m (number ps (a ∷ b ∷ []))) (λ z. let k = number-pos ps (a ∷ b ∷ []) in omega arith)
-        (unfold node_count in let k = number_lt mp in omega arith) refl refl)
+        ∙ sym (root-at (see m) (node_count ts) (number ps (a ∷ b ∷ [])) _
+        (link-to _ _ (number-pos ps (a ∷ b ∷ [])) (unfold node_count in let k = number_lt mp in omega arith)))
         ∙ word-is ts m D (a ∷ b ∷ []) 0 mp ∙ sym (yes_case _ _ (mem_has mp))
     at a b (inr np) = ap f (num-out ps (a ∷ b ∷ []) np) ∙ sym none_is
         ∙ sym (no_case _ _ (Rattle.laws.specs.Tests.no_true _ (λ e. np (has-mem ps (a ∷ b ∷ []) e))))

@@ -1,80 +1,47 @@
 -- The turns of the loops over nodes and roots, as equations of the definitions in NodeWords. Assumes nothing.
-use mathlib.Core.Path.{◌≡◌, refl, sym, ap, ap₂, ◌∙◌}
-use mathlib.Core.Bool.{Bool, true, false, cond}
+use mathlib.Core.Path.{◌≡◌, sym, ap, ap₂, ◌∙◌}
 use mathlib.Core.List.{List, [], ◌∷◌, ◌++◌, map}
-use Prim.Native.Nat.{ℕ, zero, suc, ◌+◌, ◌-◌, ◌*◌, ◌%◌, ◌^◌, ◌≤◌, ◌<◌}
+use Prim.Native.Nat.{ℕ, suc, ◌+◌, ◌-◌, ◌*◌, ◌%◌, ◌^◌, ◌≤◌, ◌<◌}
 use native.Mathlib.Omega.{arith}
 use native.Mathlib.Nat.{mod-eq_of_lt}
-use lib.Dec.{eqb, leb}
 use lib.ListN.{length, get_or, set, take, drop}
 use lib.Seq.{take-suc, drop-cons, set_at, get_or_at, length-take-le}
 use lib.Bits.{bit_xor, bit_or, or_shifted}
-use borrow.Author.Tests.{eq-eqb, ne_eqb, le-leb, lt-leb}
 use Rattle.spec.specs.Lists.{fold}
 use Rattle.spec.specs.Layout.{pack}
 use Rattle.laws.specs.OneMore.{fold-append}
 use Rattle.laws.specs.Fill.{write}
-use Rattle.nodes.proofs.Chains.{length-map}
+use Rattle.std.proofs.lemmas.List.{length-map, map-append}
 use Rattle.nodes.specs.declared.Node.{Node}
-use Rattle.laws.specs.Tests.{yes_case, no_case}
-use Rattle.std.proofs.lemmas.List.{map-append}
-use Rattle.words.specs.NodeWords.{node_word, as_root, child_writes, node_writes, root_word}
+use Rattle.words.specs.NodeWords.{node_word, as_root, child_put, child_puts, child_writes, node_writes, root_word}
+use Rattle.std.specs.Prelude.{Option, Some, None}
+use Rattle.std.specs.Option.{option_map_or}
+use Rattle.nodes.specs.Links.{link}
 
 -- ---- words
 
-pub shifted : (base id l : ℕ) → base < 2 ^ 32 → id < 2 ^ 16 → l < 2 ^ 8
-    → bit_or (base * 2 ^ 32 % 2 ^ 64) (bit_or (id * 2 ^ 8 % 2 ^ 64) l) ≡ pack base id l
+pub shifted : (base id l b i x : ℕ) → b ≡ base → i ≡ id → x ≡ l → base < 2 ^ 32 → id < 2 ^ 16 → l < 2 ^ 8
+    → bit_or (b * 2 ^ 32 % 2 ^ 64) (bit_or (i * 2 ^ 8 % 2 ^ 64) x) ≡ pack base id l
 unfolding pack
-shifted base id l a b c =
+shifted base id l b i x eb ei el hb hi hl =
     let h : base * 2 ^ 32 < 2 ^ 64 = omega arith in
     let k : id * 2 ^ 8 < 2 ^ 64 = omega arith in
-    ap₂ bit_or (mod-eq_of_lt h) (ap (λ (z : ℕ). bit_or z l) (mod-eq_of_lt k) ∙ or_shifted id 8 l c)
-    ∙ or_shifted base 32 (id * 2 ^ 8 + l) (omega arith)
+    rw (eb, ei, el, mod-eq_of_lt h, mod-eq_of_lt k, or_shifted id 8 l hl) (or_shifted base 32 (id * 2 ^ 8 + l) (omega arith))
 
 -- ---- the children of a node
 
-module _ (M : ℕ → Node) (made base : ℕ) where
-  pub children-end : (f c : ℕ) → c ≡ 0 → child_writes M made base f c ≡ []
-  unfolding child_writes
-  children-end zero c e = refl
-  children-end (suc f) c e = yes_case _ _ (eq-eqb c 0 e)
+-- one turn: a child is written
+pub children-turn : (base i : ℕ) (n : Node) (t : List ℕ) {t' : List ℕ} {xs : List (ℕ × Node)} (ys : List (ℕ × Node)) → xs ≡ (i, n) ∷ ys
+    → t' ≡ set t (bit_xor base n.label) (node_word n n.label)
+    → fold write t' (child_puts base ys) ≡ fold write t (child_puts base xs)
+unfolding fold write child_put
+children-turn base i n t ys e et =
+    ap (λ (x : List ℕ). fold write x (child_puts base ys)) et
+    ∙ sym (ap (λ (l : List (ℕ × Node)). fold write t (child_puts base l)) e)
 
-  pub children-out : (f c : ℕ) → made ≤ c → child_writes M made base f c ≡ []
-  unfolding child_writes
-  children-out zero c h = refl
-  children-out (suc f) c h = go (eqb c 0)
-    where
-      go : (d : Bool) → cond d [] (cond (leb made c) []
-          (record { at = bit_xor base (M c).label; val = node_word (M c) (M c).label } ∷ child_writes M made base f (M c).next)) ≡ []
-      go true = refl
-      go false = yes_case _ _ (le-leb made c h)
-
-  pub children-done : (f c : ℕ) → f ≤ 0 → child_writes M made base f c ≡ []
-  unfolding child_writes
-  children-done zero c h = refl
-  children-done (suc f) c h = absurd (omega arith)
-
-  pub children-on : (f c : ℕ) → (c ≡ 0 → ⊥) → c < made
-      → child_writes M made base (suc f) c ≡ record {
-        at = bit_xor base (M c).label;
-        val = node_word (M c) (M c).label;
-      } ∷ child_writes M made base f (M c).next
-  unfolding child_writes
-  children-on f c z h = no_case _ _ (ne_eqb c 0 z) ∙ no_case _ _ (lt-leb made c h)
-
-  -- one turn: node n is written
-  pub children-turn : (t t' : List ℕ) (f c l w : ℕ) (n : Node) → 0 < f → (c ≡ 0 → ⊥) → c < made → n ≡ M c → l ≡ n.label
-      → w ≡ node_word n n.label → t' ≡ set t (bit_xor base l) w
-      → fold write t (child_writes M made base f c) ≡ fold write t' (child_writes M made base (f - 1) n.next)
-  unfolding fold write
-  children-turn t t' zero c l w n hf z h en el ew et = absurd (omega arith)
-  children-turn t t' (suc f) c l w n hf z h en el ew et =
-      let q : suc f - 1 ≡ f = omega arith in
-      ap (fold write t) (children-on f c z h)
-      ∙ ap (λ (x : Node). fold write (set t (bit_xor base x.label) (node_word x x.label)) (child_writes M made base f x.next))
-      (sym en)
-      ∙ ap₂ (λ (x : List ℕ) (y : ℕ). fold write x (child_writes M made base y n.next))
-      (ap₂ (λ (x y : ℕ). set t (bit_xor base x) y) (sym el) (sym ew) ∙ sym et) (sym q)
+pub children-done : (base : ℕ) (t : List ℕ) {xs : List (ℕ × Node)} → xs ≡ [] → fold write t (child_puts base xs) ≡ t
+unfolding fold
+children-done base t e = ap (λ (l : List (ℕ × Node)). fold write t (child_puts base l)) e
 
 -- ---- all nodes
 
@@ -99,22 +66,18 @@ module _ (M : ℕ → Node) (made : ℕ) where
 
   -- ---- roots
 
-  pub root_none : (r : ℕ) → r ≡ 0 → 0 ≡ root_word M made r
+  pub root-none : (r : ℕ) → link r made ≡ None → 0 ≡ root_word M made r
   unfolding root_word
-  root_none r h = sym (yes_case _ _ (eq-eqb r 0 h))
+  root-none r e = sym (ap (λ (o : Option ℕ). option_map_or (λ i. as_root (M i)) o 0) e)
 
-  pub root-out : (r : ℕ) → (r ≡ 0 → ⊥) → made ≤ r → 0 ≡ root_word M made r
+  pub root-at : (r i : ℕ) → link r made ≡ Some i → as_root (M i) ≡ root_word M made r
   unfolding root_word
-  root-out r z h = sym (no_case _ _ (ne_eqb r 0 z) ∙ yes_case _ _ (le-leb made r h))
-
-  pub root-at : (r w : ℕ) (n : Node) → (r ≡ 0 → ⊥) → r < made → n ≡ M r → w ≡ as_root n → w ≡ root_word M made r
-  unfolding root_word
-  root-at r w n z h en ew = ew ∙ ap as_root en ∙ sym (no_case _ _ (ne_eqb r 0 z) ∙ no_case _ _ (lt-leb made r h))
+  root-at r i e = sym (ap (λ (o : Option ℕ). option_map_or (λ j. as_root (M j)) o 0) e)
 
 -- one cell more is replaced by what f makes of it
 module _ (f : ℕ → ℕ) (r : List ℕ) (i : ℕ) (h : i < length r) where
   front : length (map f (take i r)) ≡ i
-  front = length-map f (take i r) ∙ length-take-le i r (omega arith)
+  front = length-map (take i r) f ∙ length-take-le i r (omega arith)
 
   pub cell-old : (t : List ℕ) → t ≡ map f (take i r) ++ drop i r → get_or t i 0 ≡ get_or r i 0
   cell-old t e = ap (λ (l : List ℕ). get_or l i 0) (e ∙ ap (λ (l : List ℕ). map f (take i r) ++ l) (drop-cons r i 0 h))

@@ -10,10 +10,11 @@ ghost use Rattle.words.specs.NodeWords.{node_word, as_root};
 use nodes::Node;
 
 /// Base, id and incoming byte as one word.
+#[tactic(auto, using(crate::proofs::WordTurns::shifted))]
 pub fn pack_word(base: u32, term: u16, label: u8) -> u64
     ensures { result ≡ pack base term label }
 {
-    (base as u64) << 32 | ((term as u64) << 8 | label as u64)
+    u64::from(base) << 32 | (u64::from(term) << 8 | u64::from(label))
 }
 
 /// The word of a node, with the byte that leads to it.
@@ -31,20 +32,11 @@ pub fn root_word_of(n: Node) -> u64
     word_of(n, 0)
 }
 
-/// A word at its slot, if the table has that.
-pub fn put_word(table: &mut [u64], slot: usize, word: u64)
-    ensures { table.new ≡ set table.old slot word }
-{
-    if slot < table.len() {
-        table[slot] = word;
-    }
-}
-
-/// The word of a child, at base XOR label.
+/// The word of a child, at base XOR label, if the table has that slot.
 pub fn put_child(table: &mut [u64], base: usize, n: Node)
     ensures { table.new ≡ set table.old (bit_xor base n.label) (node_word n n.label) }
 {
-    put_word(table, base ^ n.label as usize, word_of(n, n.label));
+    copies::put(table, base ^ usize::from(n.label), word_of(n, n.label));
 }
 
 /// How many words a layout has whose highest block this is.

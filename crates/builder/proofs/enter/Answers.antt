@@ -10,12 +10,12 @@ returns-then-is_full-clause-stands c =
     let full = ltb-true c.capacity-most.result a.st.made (sym c.is_full.ensures.same ∙ c.if-is_full.true) in
     λ ts os bl B r. enter-none B _ (subst (λ (x : ℕ). x < a.st.made) c.capacity-most.ensures full)
 
-pub returns-then-bytes-eq1-clause-stands : goal.returns-then-bytes-eq1-clause-stands
-returns-then-bytes-eq1-clause-stands c =
+pub returns-then-token-eq1-clause-stands : goal.returns-then-token-eq1-clause-stands
+returns-then-token-eq1-clause-stands c =
     let a = c.args in
     let fits = ltb-false c.capacity-most.result a.st.made (sym c.is_full.ensures.same ∙ c.if-is_full.false) in
-    λ ts os bl B r. enter-byte B _ r (subst (λ (x : ℕ). a.st.made ≤ x) c.capacity-most.ensures fits) c.if-bytes-eq1.true _ refl _
-    (c.enter_one.ensures ∙ ap (λ (m : Memory). one_entered m.single a.st.made (get_or a.bytes.now 0 0)) c.as_memory.ensures)
+    λ ts os bl B r. enter-byte B _ r (subst (λ (x : ℕ). a.st.made ≤ x) c.capacity-most.ensures fits) c.if-token-eq1.true _ refl _
+    (c.enter_one.ensures ∙ ap (λ (m : Memory). one_entered m.single a.st.made (get_or a.token.bytes.now 0 0)) c.as_memory.ensures)
 
 pub insert-requires : goal.insert-requires
 insert-requires c =
@@ -23,8 +23,8 @@ insert-requires c =
     let fits = ltb-false c.capacity-most.result a.st.made (sym c.is_full.ensures.same ∙ c.if-is_full.false) in
     let r = c.requires in
     let e = c.capacity-most.ensures in
-    let one = c.if-bytes-eq1.false in
-    (r.0.roots, omega arith, r.2, fits, omega arith)
+    let one = c.if-token-eq1.false in
+    (r.0.roots, omega arith, r.1, fits, omega arith)
 
 pub returns-clause-stands : goal.returns-clause-stands
 returns-clause-stands c =

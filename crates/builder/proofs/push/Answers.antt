@@ -1,5 +1,5 @@
 use Rattle.std.proofs.Common.{ℕ, List, drop, ap, ◌∙◌, subst}
-use Rattle.spec.specs.Token.{Token}
+use Rattle.entry.specs.TokenOf.{token_of}
 use Rattle.tokens.specs.Built.{room_for, PushedIn}
 use Rattle.tokens.proofs.PushMeans.{same-built}
 use Rattle.builder.proofs.push.Goals as goal
@@ -10,9 +10,9 @@ returns-clause-stands c = λ table ts B.
     let e = c.enter-entered.ensures in
     let r = e.rest in
     let n = c.enter-entered.new in
-    let t : Token = record { id = a.id; bytes = a.bytes.now } in
-    subst (λ (bl : List ℕ). PushedIn (room_for a.nodes.now bl table) ts t c.push_entered.result c.push_entered.new.memory n.nodes) r.2
-    (c.push_entered.ensures.stands table ts a.memory.now.roots.now a.nodes.now n.nodes (same-built r.0 r.1 r.2 B)
+    let p = c.push_entered in
+    subst (λ (bl : List ℕ). PushedIn (room_for a.nodes.now bl table) ts (token_of a.token) p.result p.new.memory n.nodes) r.2
+    (p.ensures.stands table ts a.memory.now.roots.now a.nodes.now n.nodes (same-built r.0 r.1 r.2 B)
     (λ x. e.stands ts _ _ B x) c.enter-entered.auto.nodes)
 
 pub returns-clause-kept : goal.returns-clause-kept

@@ -1,6 +1,6 @@
 -- `decoding::lookup` meets its contract: each test is one of the definition's. Assumes nothing.
 use Rattle.std.proofs.Common.{arith}
-use Rattle.decoding.proofs.LookupLaws.{if_any-none, lookup-far, lookup-unpaired, lookup-outside, token-good, token-bad}
+use Rattle.decoding.proofs.LookupLaws.{if_any-none, lookup-far, lookup-unpaired, lookup-outside, between}
 use Rattle.decoding.proofs.lookup.Goals as goal
 
 pub returns-then-i-ge65536 : goal.returns-then-i-ge65536
@@ -18,28 +18,24 @@ returns-in_err-end c =
 
 pub returns-in_err-token : goal.returns-in_err-token
 returns-in_err-token c =
-    let a = c.in_ok-start.ensures.lookup.3.1 0 in
-    let e = c.in_ok-end.ensures.lookup.3.1 0 in
     rw c.from_residual-in_err-token.ensures
-    (if_any-none _ (lookup-outside _ _ (omega arith) (rw (← a, ← e) c.in_err-token.ensures.lookup.0)))
+    (if_any-none _ (lookup-outside _ _ (omega arith)
+    (rw (← c.in_ok-start.ensures.lookup.3.1 0, ← c.in_ok-end.ensures.lookup.3.1 0) c.in_err-token.ensures.lookup.0)))
 
 pub returns-then-token-eq0 : goal.returns-then-token-eq0
 returns-then-token-eq0 c =
-    let a = c.in_ok-start.ensures.lookup.3.1 0 in
-    let e = c.in_ok-end.ensures.lookup.3.1 0 in
     let t = c.in_ok-token.ensures.lookup.0 in
-    token-bad _ _ (omega arith) _ _ a e t.0 t.1 _ t.2 (λ some short. omega arith)
+    (between _ _ (omega arith) _ _ (c.in_ok-start.ensures.lookup.3.1 0) (c.in_ok-end.ensures.lookup.3.1 0) t.0 t.1 _ t.2).bad
+    (λ some short. omega arith)
 
 pub returns-then-token-gt255 : goal.returns-then-token-gt255
 returns-then-token-gt255 c =
-    let a = c.in_ok-start.ensures.lookup.3.1 0 in
-    let e = c.in_ok-end.ensures.lookup.3.1 0 in
     let t = c.in_ok-token.ensures.lookup.0 in
-    token-bad _ _ (omega arith) _ _ a e t.0 t.1 _ t.2 (λ some short. omega arith)
+    (between _ _ (omega arith) _ _ (c.in_ok-start.ensures.lookup.3.1 0) (c.in_ok-end.ensures.lookup.3.1 0) t.0 t.1 _ t.2).bad
+    (λ some short. omega arith)
 
 pub returns : goal.returns
 returns c =
-    let a = c.in_ok-start.ensures.lookup.3.1 0 in
-    let e = c.in_ok-end.ensures.lookup.3.1 0 in
     let t = c.in_ok-token.ensures.lookup.0 in
-    token-good _ _ (omega arith) _ _ a e t.0 t.1 _ t.2 (omega arith) (omega arith)
+    (between _ _ (omega arith) _ _ (c.in_ok-start.ensures.lookup.3.1 0) (c.in_ok-end.ensures.lookup.3.1 0) t.0 t.1 _ t.2).good
+    (omega arith) (omega arith)

@@ -1,7 +1,7 @@
 -- `decoding::write_tokens` meets its contract: the bytes of the ids passed stand in the output. Assumes nothing.
 use Rattle.std.proofs.Common.{sym, ◌∙◌, arith, get_or}
 use Rattle.memory.specs.Lent.{cells_of}
-use Rattle.decoding.proofs.DecodePasses.{next-token, rest_size, token-copied, written_none, written-more, written_all}
+use Rattle.decoding.proofs.DecodePasses.{next-token, rest_size, token-copied, written_none, written-more}
 use Rattle.decoding.proofs.write_tokens.Goals as goal
 
 pub loop-id-init : goal.loop-id-init
@@ -51,9 +51,3 @@ loop-id-preserved c =
     written-more m c.args.ids.now l.id-index l.at l.out l.invariant c.copy_token.new.room _ _ _ c.loop-id-test.true
     (omega arith) (omega (arith, t.room, t.token.size, p.1)) t (p.1 ∙ sym t.token.size)
     (token-copied m i _ _ _ t.token p.0 p.1 c.copy_token.ensures)
-
-pub returns : goal.returns
-returns c =
-    let l = c.loop-id in
-    written_all (cells_of c.args.memory) c.args.ids.now l.id-index l.at l.out l.invariant c.loop-id-test.false
-    (rw c.loop-id.auto.out c.requires)

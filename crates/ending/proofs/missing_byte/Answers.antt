@@ -1,21 +1,15 @@
-use Rattle.std.proofs.Common.{get_or, pos, w32, sym, ap, ◌∙◌, rules}
-use borrow.Author.Rules.{sfits_of}
-use mir.Facts.{to_z-of_z}
-use Rattle.tokens.specs.Built.{is_taken}
-use Rattle.ending.proofs.BuildEnd.{missing-here, missing-next, missing-end}
+use Rattle.std.proofs.Common.{pos, sym, ◌∙◌, arith, length-take-le}
+use Rattle.std.proofs.lemmas.List.Quantifiers.{position-Some}
+use Rattle.ending.proofs.BuildEnd.{is_free, free-missing}
 use Rattle.ending.proofs.missing_byte.Goals as goal
 
-pub returns-then-not-taken : goal.returns-then-not-taken
-returns-then-not-taken c =
-    let cell = to_z-of_z {w = w32} {z = get_or c.args.single.now c.loop-b.b (pos 0)} (sfits_of (search rules)) in
-    λ ts S. missing-here ts _ S _ c.loop-b-test.true (sym (c.taken.ensures ∙ ap is_taken cell) ∙ c.if-not-taken.true)
-    ∙ c.loop-b.invariant ts S
+pub returns-in_err-b : goal.returns-in_err-b
+returns-in_err-b c = λ ts S. c.from_residual.ensures ∙ c.in_err-b.ensures ∙ free-missing ts _ S
 
-pub loop-b-preserved : goal.loop-b-preserved
-loop-b-preserved c =
-    let cell = to_z-of_z {w = w32} {z = get_or c.args.single.now c.loop-b.b (pos 0)} (sfits_of (search rules)) in
-    λ ts S. missing-next ts _ S _ c.loop-b-test.true (sym (c.taken.ensures ∙ ap is_taken cell) ∙ c.if-not-taken.false)
-    ∙ c.loop-b.invariant ts S
+pub overflow_cast-result : goal.overflow_cast-result
+overflow_cast-result c =
+    let p = position-Some is_free _ c.in_ok-b.b (pos 0) (sym c.in_ok-b.ensures) in
+    omega (arith, p.0, length-take-le 256 c.args.single.now c.requires)
 
 pub returns : goal.returns
-returns c = λ ts S. missing-end ts _ c.loop-b-test.false ∙ c.loop-b.invariant ts S
+returns c = λ ts S. c.in_ok-b.ensures ∙ free-missing ts _ S

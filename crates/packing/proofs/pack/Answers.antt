@@ -1,40 +1,23 @@
 -- With no block, with no slot for a node, and with all nodes placed.
-use Rattle.std.proofs.Common.{refl, length}
-use Rattle.packing.proofs.Answered.{end-bounds, no_block, no_slot, all-put, roots_behind}
+use Rattle.std.proofs.Common.{refl}
+use Rattle.packing.proofs.Answered.{end_lent, end-bounds, no_block, no_slot, all-put, roots_behind}
 use Rattle.packing.proofs.pack.Goals as goal
 
 pub returns-then-end-eq0-clause-stands : goal.returns-then-end-eq0-clause-stands
-returns-then-end-eq0-clause-stands c =
-    let a = c.args in
-    let w = a.work.now in
-    no_block a.made _ (length a.table.now) (length w.used.now) (length w.used_bases.now) c.words_of_marks-end.ensures w.nodes.now
-    a.roots.now a.table.now c.if-end-eq0.true
+returns-then-end-eq0-clause-stands c = no_block _ _ _ _ c.words_of_marks-end.ensures _ _ _ _ c.if-end-eq0.true
 
 pub place_all-requires : goal.place_all-requires
-place_all-requires c =
-    let a = c.args in
-    let w = a.work.now in (
-      c.requires.0,
-      c.requires.1,
-      end-bounds (length a.table.now) (length w.used.now) (length w.used_bases.now) _ c.words_of_marks-end.ensures w.used.now
-          w.used_bases.now refl refl c.if-end-eq0.false,
-    )
+place_all-requires c = (c.requires.0, c.requires.1, end-bounds _ _ _ _ c.words_of_marks-end.ensures c.if-end-eq0.false)
 
 pub returns-in_err-front-clause-stands : goal.returns-in_err-front-clause-stands
 returns-in_err-front-clause-stands c =
-    let a = c.args in
-    let w = a.work.now in
     rw c.from_residual.ensures
-    (no_slot a.made _ (length a.table.now) (length w.used.now) (length w.used_bases.now) c.words_of_marks-end.ensures w.nodes.now
-    a.roots.now a.table.now c.place_all.new.nodes c.in_err-front.ensures.stands)
+    (no_slot _ _ _ _ (end_lent _ _ _ _ c.words_of_marks-end.ensures) _ _ _ _ c.place_all.new.nodes c.in_err-front.ensures.stands)
 
 pub returns-clause-stands : goal.returns-clause-stands
 returns-clause-stands c =
-    let a = c.args in
-    let w = a.work.now in
-    all-put a.made _ (length a.table.now) (length w.used.now) (length w.used_bases.now) c.words_of_marks-end.ensures w.nodes.now
-    a.roots.now a.table.now c.place_all.new.nodes c.in_ok-front.front c.in_ok-front.ensures.stands _ _ _ _ c.words_to.ensures refl
-    c.requires.2 (c.fill.ensures.after (λ y e. e)) c.put_words.ensures c.put_roots.ensures
+    all-put _ _ _ _ (end_lent _ _ _ _ c.words_of_marks-end.ensures) _ _ _ _ _ _ c.in_ok-front.ensures.stands _ _ _ _ c.words_to.ensures
+    refl c.requires.2 (c.fill.ensures.after (λ y e. e)) c.put_words.ensures c.put_roots.ensures
 
 pub returns-clause-kept : goal.returns-clause-kept
 returns-clause-kept c = roots_behind _ _ _ c.requires.2 c.put_roots.ensures

@@ -1,7 +1,8 @@
 -- `stream::take_piece` meets its contract: the run over the window in each of its cases, and behind it the rest of the piece.
 -- Assumes nothing.
 use Rattle.std.proofs.Common.{◌≡◌, List, ℕ, ◌+◌, ◌-◌, ◌≤◌, length, take, drop, get_or, arith}
-use Rattle.std.proofs.Common.{Err, sym, ap, ◌∙◌, subst, length-append, length-take}
+use Rattle.std.proofs.Common.{Err, sym, ap, ◌∙◌, subst, length-append, length-take, length-drop, drop_of_length-le, append-nil, ◌++◌}
+use borrow.Rule.Slice.PartMut.{put_mid}
 use Rattle.std.proofs.lemmas.List as lists
 use Rattle.spec.specs.Memory.{Memory}
 use Rattle.spec.specs.Stream.{holding, stopped_at}
@@ -27,40 +28,80 @@ windowed held piece w e =
 
 -- what a run does over the window's bytes
 over_window : (m : Memory) (held piece w : List ℕ) (lent out : List ℕ) (r : Ran) → w ≡ window held piece
-    → RunsTo m w 0 (length held) 0 lent out r → RunsTo m (window held piece) 0 (length held) 0 lent out r
-over_window m held piece w lent out r e h = subst (λ (s : List ℕ). RunsTo m s 0 (length held) 0 lent out r) e h
+    → RunsTo m w (length held) lent out r → RunsTo m (window held piece) (length held) lent out r
+over_window m held piece w lent out r e h = subst (λ (s : List ℕ). RunsTo m s (length held) lent out r) e h
+
+-- how many elements there are from a place on
+rest_long : (s : List ℕ) (i : ℕ) → length (take (length s - i) (drop i s)) ≡ length s - i
+rest_long s i = ap length (lists.take_rest s i) ∙ length-drop i s
+
+-- what was lent of a list from a place on, put back
+put_rest : (n : ℕ) (l last : List ℕ) → put_mid n (length l - n) l last ≡ take n l ++ last
+put_rest n l last =
+    let d = length-drop n l in
+    ap (λ (x : List ℕ). take n l ++ (last ++ x)) (drop_of_length-le (drop n l) (omega arith))
+    ∙ ap (λ (x : List ℕ). take n l ++ x) (append-nil last)
 
 pub run-requires : goal.run-requires
 run-requires c =
     let j = windowed _ _ _ c.join-joined.ensures in
-    (omega arith, omega (arith, j.from), omega arith, omega arith, omega (arith, j.upto))
-
-pub take_rest-requires : goal.take_rest-requires
-take_rest-requires c =
-    let j = windowed _ _ _ c.join-joined.ensures in
-    let w = c.in-Through.ensures in (
-      omega (arith, j.upto, w.comes.0, w.comes.1),
-      omega arith,
-      omega arith,
-      omega arith,
-      omega (arith, j.upto, w.comes.0, w.comes.1, w.count, w.few),
-    )
+    (omega (arith, j.from), omega arith, omega arith, omega (arith, j.upto))
 
 pub opened-requires : goal.opened-requires
 opened-requires c =
     let w = c.in-Waiting.ensures.comes in
     subst (λ (s : List ℕ). length s ≤ 254) (sym (lists.take_rest c.join-joined.result.now c.in-Waiting.at)) (waits_few _ _ w.1)
 
+pub overflow_cast-over : goal.overflow_cast-over
+overflow_cast-over c =
+    let j = windowed _ _ _ c.join-joined.ensures in
+    omega (arith, j.upto, c.in-Through.ensures.comes.1)
+
+pub overflow_add-total : goal.overflow_add-total
+overflow_add-total c =
+    let j = windowed _ _ _ c.join-joined.ensures in
+    omega (arith, j.upto, c.in-Through.ensures.comes.1)
+
+pub slice_bounds-take_rest-start : goal.slice_bounds-take_rest-start
+slice_bounds-take_rest-start c =
+    let j = windowed _ _ _ c.join-joined.ensures in
+    omega (arith, j.upto, c.in-Through.ensures.comes.1)
+
+pub slice_bounds-take_rest-count : goal.slice_bounds-take_rest-count
+slice_bounds-take_rest-count c =
+    let j = windowed _ _ _ c.join-joined.ensures in
+    omega (arith, j.upto, c.in-Through.ensures.comes.1)
+
+pub take_rest-requires : goal.take_rest-requires
+take_rest-requires c =
+    let j = windowed _ _ _ c.join-joined.ensures in
+    let w = c.in-Through.ensures in
+    let r = rest_long c.args.piece.now (c.in-Through.at - length c.args.held.now) in
+    let o = rest_long c.run.new.out c.in-Through.count in (
+      omega arith,
+      omega arith,
+      omega (arith, r, j.upto, w.comes.0, w.comes.1),
+      omega (arith, r, o, j.upto, w.comes.0, w.comes.1, w.count, w.few, c.run.auto.out),
+      omega (arith, r, j.upto, w.comes.0, w.comes.1, w.count, w.few),
+    )
+
 pub returns-in-Through : goal.returns-in-Through
 returns-in-Through c =
     let a = c.args in
-    held-through _ a.held.now a.piece.now (a.total - length a.held.now) a.total (a.total + length a.piece.now) _ _ a.out.now _ _ _
-    (over_window _ _ _ _ _ _ _ c.join-joined.ensures c.in-Through.ensures) (omega arith) c.take_rest.ensures
+    let j = windowed _ _ _ c.join-joined.ensures in
+    let w = over_window _ _ _ _ _ _ _ c.join-joined.ensures c.in-Through.ensures in
+    let n = c.in-Through.count in
+    let o = c.run.new.out in
+    held-through _ a.held.now a.piece.now (a.total - length a.held.now) (a.total + length a.piece.now) _ n _ _ _ w
+    (omega (arith, w.comes.0)) (lists.take_rest a.piece.now (c.in-Through.at - length a.held.now))
+    (omega (arith, j.upto, w.comes.0, c.in-Through.ensures.comes.1, rest_long a.piece.now (c.in-Through.at - length a.held.now)))
+    (lists.take_rest o n)
+    (put_rest n o c.take_rest.new.out) c.take_rest.ensures
 
 pub returns-in-Waiting : goal.returns-in-Waiting
 returns-in-Waiting c =
     let a = c.args in
-    held-waiting _ a.held.now a.piece.now (a.total - length a.held.now) a.total (a.total + length a.piece.now) _ _ a.out.now _ _
+    held-waiting _ a.held.now a.piece.now (a.total - length a.held.now) (a.total + length a.piece.now) _ _ a.out.now _ _
     (over_window _ _ _ _ _ _ _ c.join-joined.ensures c.in-Waiting.ensures) (
       c.opened.ensures.0,
       c.opened.ensures.1
@@ -73,7 +114,7 @@ returns-in-Stuck c =
     let a = c.args in
     let p = a.total - length a.held.now + c.in-Stuck.at in
     let b = ap (λ (s : List ℕ). get_or s c.in-Stuck.at 0) c.join-joined.ensures in
-    held-stuck _ a.held.now a.piece.now (a.total - length a.held.now) a.total (a.total + length a.piece.now) _ _ a.out.now _ _
+    held-stuck _ a.held.now a.piece.now (a.total - length a.held.now) (a.total + length a.piece.now) _ _ a.out.now _ _
     (over_window _ _ _ _ _ _ _ c.join-joined.ensures c.in-Stuck.ensures) (
       c.stopped.ensures.0 ∙ ap (λ (x : ℕ). Err (Stopped c.in-Stuck.count p x)) b,
       c.stopped.ensures.1 ∙ ap (stopped_at (a.total + length a.piece.now) p) b,

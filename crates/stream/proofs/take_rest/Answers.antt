@@ -7,15 +7,15 @@ use Rattle.stream.proofs.take_rest.Goals as goal
 
 pub opened-requires-in-Waiting : goal.opened-requires-in-Waiting
 opened-requires-in-Waiting c =
-    let w = waits_few _ (drop c.in-Waiting.at c.args.piece.now) c.in-Waiting.ensures.comes.1 in
-    let p = lists.take_rest c.args.piece.now c.in-Waiting.at in
+    let w = waits_few _ (drop c.in-Waiting.at c.args.rest.now) c.in-Waiting.ensures.comes.1 in
+    let p = lists.take_rest c.args.rest.now c.in-Waiting.at in
     omega (arith, w, ap length p)
 
 pub returns-in-Through : goal.returns-in-Through
-returns-in-Through c before b =
+returns-in-Through c ids b =
     let a = c.args in
-    rest-through _ a.piece.now a.from a.count a.total (a.total + length a.piece.now) _ _ before _ _ _ b
-    c.in-Through.ensures (
+    let all = a.start + length a.rest.now in
+    rest-through _ a.rest.now a.start a.before all _ _ ids _ _ _ b c.in-Through.ensures (
       c.opened.ensures.0,
-      c.opened.ensures.1 ∙ ap (holding 0 (a.total + length a.piece.now)) (lists.take_rest a.piece.now c.in-Through.at),
+      c.opened.ensures.1 ∙ ap (holding 0 all) (lists.take_rest a.rest.now c.in-Through.at),
     )

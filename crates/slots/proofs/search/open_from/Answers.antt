@@ -1,15 +1,15 @@
-use Rattle.std.proofs.Common.{arith}
-use Rattle.slots.proofs.Starts.{open_at, open-on, open_none}
+-- What the library's search finds is the first word that is not full.
+use Rattle.std.proofs.Common.{◌-◌, drop, take, length, length-drop, rules, tests, take_all, arith}
+use Rattle.std.proofs.lemmas.Iterator.{YieldsList-from_slice}
+use Rattle.std.proofs.lemmas.Iterator.Search.{position_from_yields_List}
+use Rattle.slots.proofs.Starts.{some_free, open_where}
 use Rattle.slots.proofs.search.open_from.Goals as goal
-
-pub returns-then-used-i : goal.returns-then-used-i
-returns-then-used-i c =
-    open_at c.args.used.now c.args.from c.args.end c.loop-i.i (omega arith) (omega arith) c.loop-i.invariant c.if-used-i.true
-
-pub loop-i-preserved : goal.loop-i-preserved
-loop-i-preserved c =
-    open-on c.args.used.now c.args.from c.args.end c.loop-i.i (omega arith) (omega arith) c.loop-i.invariant c.if-used-i.false
 
 pub returns : goal.returns
 returns c =
-    open_none c.args.used.now c.args.from c.args.end c.loop-i.i (omega arith) (omega arith) c.loop-i.invariant c.loop-i-test.false
+    let U = c.args.used.now in
+    let xs = take (length U - c.args.from) (drop c.args.from U) in
+    rw c.unwrap_or.ensures
+    (open_where U c.args.from xs c.position-open.result (take_all _ _ (omega (arith, length-drop c.args.from U)))
+    (position_from_yields_List some_free _ _ c.position-open.result c.position-open.ensures.ran (YieldsList-from_slice xs cc)
+    (λ x b q k. search (rules, tests))))

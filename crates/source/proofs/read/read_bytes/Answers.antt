@@ -6,9 +6,9 @@ use Rattle.spec.specs.Literal.{read}
 use Rattle.source.proofs.Literals.{good, stored-front}
 use Rattle.source.proofs.read.read_bytes.Goals as goal
 
-pub returns-clause-means : goal.returns-clause-means
+pub returns : goal.returns
 unfolding given
-returns-clause-means c =
+returns c =
     let a = c.args in
     let given = c.parse_python_literal_into.ensures in
     let len = c.in_ok-len.len in

@@ -1,12 +1,10 @@
--- What the loop keeps, and how far it is from the end of the records.
-use Rattle.std.proofs.Common.{◌-◌, ◌≤◌, length}
+-- What the loop keeps: the memory holds the tokens of the records before.
+use Rattle.std.specs.Iterator.Adapters.{enumerate_source, enumerate_count}
+use Rattle.line.specs.Answers.{lines_left}
 use Rattle.vocabulary.proofs.RecordTurns.{Going}
 use Rattle.vocabulary.proofs.records.take_records.Given as goal
 
--- the memory holds the tokens of the records before
-abbrev pub invariant-loop-line : goal.invariant-loop-line
-invariant-loop-line l =
-    Going l.form l.body l.fn.memory l.fn.nodes l.memory l.nodes l.at l.lines l.st × (255 ≤ length l.cells)
-
-abbrev pub decreases-loop-line : goal.decreases-loop-line
-decreases-loop-line l = length l.body - l.at
+abbrev pub invariant-loop-n : goal.invariant-loop-n
+invariant-loop-n l =
+    Going l.form l.body l.fn.memory l.fn.nodes l.memory l.nodes (enumerate_count l.n-iterator) (lines_left (enumerate_source l.n-iterator))
+    l.st

@@ -1,5 +1,5 @@
 -- The lowest bit that is not set stands for the smallest slot that is not refused.
-use Rattle.std.proofs.Common.{◌-◌, ◌^◌, refl, sym, arith}
+use Rattle.std.proofs.Common.{◌∷◌, ◌-◌, ◌^◌, length, refl, sym, arith}
 use Rattle.slots.specs.Marks.{slot_on}
 use Rattle.slots.proofs.Bitwise.{lowest-bit}
 use Rattle.slots.proofs.Find.{hit, all-bad, both, none}
@@ -10,8 +10,9 @@ unfolding slot_on
 returns-then-free-ne0 c =
     let K = c.args.self.now in
     let lt = (lowest-bit (2 ^ 64 - 1 - c.bad_word-free.result) c.if-free-ne0.true (omega arith)).0 in
-    let is = hit K.used.now K.bases.now c.args.labels.now c.loop-i.i c.bad_word-free.result c.bad_word-free.ensures
-    c.bad_word-free.type_inv c.args.from (K.end - c.args.from) (lib.Count.count_trailing_zeros 64 (2 ^ 64 - 1 - c.bad_word-free.result))
+    let is = hit K.used.now K.bases.now (c.args.first ∷ c.args.others.now) c.loop-i.i c.bad_word-free.result c.bad_word-free.ensures
+    c.bad_word-free.type_inv c.args.from (length K.used.now - c.args.from)
+    (lib.Count.count_trailing_zeros 64 (2 ^ 64 - 1 - c.bad_word-free.result))
     c.if-free-ne0.true refl (omega arith) (omega arith) c.loop-i.invariant in
     (is, omega (arith, sym is, lt))
 
@@ -21,4 +22,4 @@ loop-i-preserved c =
 
 pub returns : goal.returns
 unfolding slot_on
-returns c = sym (none _ c.args.from c.args.self.now.end (omega arith) (λ s a b. c.loop-i.invariant s a (omega arith)))
+returns c = sym (none _ c.args.from (length c.args.self.now.used.now) (omega arith) (λ s a b. c.loop-i.invariant s a (omega arith)))

@@ -1,0 +1,2 @@
+-- What a token by value means.
+pub mod TokenOf

@@ -1,0 +1,2 @@
+-- The definitions that contracts of this crate name.
+pub mod BucketRun
