@@ -33,14 +33,6 @@ module _ (k : Walk) (w n : ℕ) where
       go true e = rw e
       go false e = rw e
 
-  pub onto-base : (onto k w n).base ≡ base_in w
-  unfolding onto
-  onto-base = go (eqb (id_in w) 0) refl
-    where
-      go : (c : Bool) → eqb (id_in w) 0 ≡ c → (onto k w n).base ≡ base_in w
-      go true e = rw e
-      go false e = rw e
-
   onto-within : Within n k → 1 ≤ n → Within n (onto k w n)
   unfolding onto
   onto-within h p = go (eqb (id_in w) 0) refl

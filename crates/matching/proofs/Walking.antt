@@ -1,24 +1,20 @@
 -- The walk of `spec`, one byte at a time: where it ends and where it goes on, from a root and from a place; and the match that it gives.
 -- Assumes nothing.
-use Rattle.std.proofs.Common.{◌≡◌, ℕ, ◌+◌, ◌*◌, min, ◌≤◌, ◌<◌, suc, pos, Bool, true, false, not, ◌&&◌, eqb}
+use Rattle.std.proofs.Common.{◌≡◌, ℕ, ◌+◌, ◌-◌, ◌*◌, min, ◌≤◌, ◌<◌, suc, pos, Bool, true, false, cond, not, ◌&&◌, eqb}
 use Rattle.std.proofs.Common.{List, [], ◌∷◌, length}
-use Rattle.std.proofs.Common.{take, drop, get_or, is_some, Option, Some, None, refl, sym, ap, ap₂, ◌∙◌, arith}
-use Rattle.std.proofs.Common.{add-one, drop-cons, drop_of_length-le}
+use Rattle.std.proofs.Common.{take, drop, get_or, Option, Some, None, refl, sym, ap, ap₂, ◌∙◌, arith, add-one, drop-cons}
 use Rattle.std.specs.Int.Bits.{bit_xor}
 use borrow.Author.Tests.{eq-eqb, ne_eqb}
-use Rattle.std.proofs.lemmas.List.{take_min}
-use mathlib.Core.Bool.{true≢false}
+use Rattle.std.proofs.lemmas.Bool.{eqb-true}
+use Rattle.std.proofs.lemmas.List.{take_rest, take_min}
 use Rattle.spec.specs.Memory.{Memory}
-use Rattle.spec.specs.Match as spec
-use Rattle.spec.specs.Match.{goes, id_in, base_in, no_walk, onto, follow, enter, walk_on, found, one, match_on}
+use Rattle.spec.specs.Match.{goes, id_in, base_in, Walk, no_walk, onto, follow, enter, walk_on, one, match_on}
 use Rattle.matching.specs.declared.Match.{Match}
-use Rattle.matching.specs.declared.Walk.{Walk}
-use Rattle.matching.proofs.WalkBounds.{onto-used, onto-base}
-use Rattle.matching.specs.Answers.{child, longest, walk_of, match_of}
+use Rattle.matching.specs.Answers.{child, longest, match_of}
 
 -- ---- one byte
 
-module _ (table : List ℕ) (b : ℕ) (s : List ℕ) (k : spec.Walk) where
+module _ (table : List ℕ) (b : ℕ) (s : List ℕ) (k : Walk) where
   abbrev slot : ℕ
   slot = get_or table (bit_xor k.base b) 0
 
@@ -71,103 +67,38 @@ module _ (table : List ℕ) (w : ℕ) (s : List ℕ) where
     unfolding enter
     enter-on h = rw (ne_eqb w 0 nz, h, enter)
 
--- ---- the walk while it goes
+-- ---- from a place, over the bytes that are left
 
--- a word without an id, and one with it
-module _ (k : spec.Walk) (w n : ℕ) where
-  pub onto-none : id_in w ≡ 0 → record { longest = longest k; used = n; base = base_in w } ≡ walk_of (onto k w n)
-  unfolding onto
-  onto-none z = rw (eq-eqb (id_in w) 0 z, onto)
-
-  pub onto-some : (id_in w ≡ 0 → ⊥)
-      → record { longest = Some (record { id = id_in w; len = n }); used = n; base = base_in w } ≡ walk_of (onto k w n)
-  unfolding onto
-  onto-some z = rw (ne_eqb (id_in w) 0 z, onto) (rw (ne_eqb (id_in w) 0 z))
-
--- the first walk, which has used a byte of its two
-pub first_onto : (w : ℕ) → onto (record { id = 0; len = 0; used = 1; base = 0 }) w 2 ≡ onto no_walk w 2
-unfolding onto
-first_onto w = refl
-
--- after i bytes past the first two, a walk of the definition that comes from there to the whole
-pub record Going (table rest : List ℕ) (root i : ℕ) (x : Walk) : Type 0 where
-  pub walk : spec.Walk
-  pub is : x ≡ walk_of walk
-  pub used : x.used ≡ 2 + i
-  pub whole : follow table (drop i rest) walk ≡ enter table root rest
-
-module _ (table : List ℕ) (w : ℕ) (s : List ℕ) (x : Walk) (is : x ≡ walk_of (onto no_walk w 2)) (nz : w ≡ 0 → ⊥) where
-  base : x.base ≡ base_in w
-  base = ap (λ (k : Walk). k.base) is ∙ onto-base no_walk w 2
-
-  -- whether it passed a token
-  passed : is_some x.longest ≡ not (eqb (id_in w) 0)
-  unfolding onto
-  passed = go (eqb (id_in w) 0) refl
-    where
-      go : (c : Bool) → eqb (id_in w) 0 ≡ c → is_some x.longest ≡ not (eqb (id_in w) 0)
-      go true e = ap (λ (k : Walk). is_some k.longest) is ∙ rw (e, onto)
-      go false e = ap (λ (k : Walk). is_some k.longest) is ∙ rw (e, onto) (rw e)
-
-  pub ends-first : is_some x.longest ≡ true → x.base ≡ 0 → x ≡ walk_of (enter table w s)
-  ends-first t z =
-      is ∙ ap walk_of (enter-ends table w s nz (λ i. true≢false (sym t ∙ passed ∙ ap not (eq-eqb (id_in w) 0 i))) (sym base ∙ z))
-
-  pub goes-first : (is_some x.longest && eqb x.base 0) ≡ false → Going table s w 0 x
-  goes-first t = record {
-    walk = onto no_walk w 2;
-    is = is;
-    used = ap (λ (k : Walk). k.used) is ∙ onto-used no_walk w 2;
-    whole = enter-on table w s nz (ap₂ (λ (a b : Bool). a && b) (sym passed) (ap (λ (n : ℕ). eqb n 0) (sym base)) ∙ t);
-  }
-
--- a turn of the loop
-module _ {table rest : List ℕ} {root i : ℕ} {x : Walk} (g : Going table rest root i x) (here : i < length rest) where
+module _ (table s : List ℕ) (i : ℕ) (here : i < length s) (k : Walk) where
   abbrev b : ℕ
-  b = get_or rest i 0
+  b = get_or s i 0
 
-  place : x.base ≡ g.walk.base
-  place = ap (λ (k : Walk). k.base) g.is
+  cons : follow table (b ∷ drop (suc i) s) k ≡ follow table (drop i s) k
+  cons = ap (λ (l : List ℕ). follow table l k) (sym (drop-cons s i 0 here))
 
-  cons : follow table (b ∷ drop (suc i) rest) g.walk ≡ enter table root rest
-  cons = ap (λ (l : List ℕ). follow table l g.walk) (sym (drop-cons rest i 0 here)) ∙ g.whole
+  pub stops_at : child table k.base b ≡ None → k ≡ follow table (drop i s) k
+  stops_at e = stops table b (drop (suc i) s) k e ∙ cons
 
-  pub stops_at : child table x.base b ≡ None → x ≡ walk_of (enter table root rest)
-  stops_at e =
-      g.is ∙ ap walk_of (stops table b (drop (suc i) rest) g.walk (ap (λ (n : ℕ). child table n b) (sym place) ∙ e) ∙ cons)
+  module _ (w : ℕ) (e : child table k.base b ≡ Some w) (next : Walk) (after : next ≡ onto k w (k.used + 1)) where
+    pub ends_at : base_in w ≡ 0 → next ≡ follow table (drop i s) k
+    ends_at z = after ∙ ends table b (drop (suc i) s) k w e z ∙ cons
 
-  module _ (w : ℕ) (e : child table x.base b ≡ Some w) (next : Walk)
-      (after : (k : spec.Walk) → x ≡ walk_of k → next ≡ walk_of (onto k w (x.used + 1))) where
-    leads : child table g.walk.base b ≡ Some w
-    leads = ap (λ (n : ℕ). child table n b) (sym place) ∙ e
+    pub goes_on_at : (base_in w ≡ 0 → ⊥) → follow table (drop (i + 1) s) next ≡ follow table (drop i s) k
+    goes_on_at z =
+        ap₂ (λ (n : ℕ) (x : Walk). follow table (drop n s) x) (add-one i) after
+        ∙ goes_on table b (drop (suc i) s) k w e z
+        ∙ cons
 
-    is : next ≡ walk_of (onto g.walk w (g.walk.used + 1))
-    is = after g.walk g.is ∙ ap (λ (n : ℕ). walk_of (onto g.walk w (n + 1))) (ap (λ (k : Walk). k.used) g.is)
+-- ---- a root's walk before any further byte, by its words
 
-    word : next.base ≡ base_in w
-    word = ap (λ (k : Walk). k.base) is ∙ onto-base g.walk w (g.walk.used + 1)
-
-    pub ends_at : next.base ≡ 0 → next ≡ walk_of (enter table root rest)
-    ends_at z = is ∙ ap walk_of (ends table b (drop (suc i) rest) g.walk w leads (sym word ∙ z) ∙ cons)
-
-    pub goes_on_at : (next.base ≡ 0 → ⊥) → Going table rest root (i + 1) next
-    goes_on_at z = record {
-      walk = onto g.walk w (g.walk.used + 1);
-      is = is;
-      used = let u = ap (λ (k : Walk). k.used) is ∙ onto-used g.walk w (g.walk.used + 1) in
-          let v = ap (λ (k : Walk). k.used) g.is in omega (arith, u, v, g.used);
-      whole =
-          ap (λ (n : ℕ). follow table (drop n rest) (onto g.walk w (g.walk.used + 1))) (add-one i)
-          ∙ goes_on table b (drop (suc i) rest) g.walk w leads (λ y. z (word ∙ y))
-          ∙ cons;
-    }
-
--- past the last byte
-pub ends_past : {table rest : List ℕ} {root i : ℕ} {x : Walk} → Going table rest root i x → length rest ≤ i
-    → x ≡ walk_of (enter table root rest)
-unfolding follow
-ends_past {table} {rest} g h =
-    g.is ∙ ap walk_of (sym (ap (λ (l : List ℕ). follow table l g.walk) (drop_of_length-le rest h)) ∙ g.whole)
+pub first_walk : (w : ℕ) → record { id = id_in w; len = cond (eqb (id_in w) 0) 0 2; used = 2; base = base_in w } ≡ onto no_walk w 2
+unfolding onto
+first_walk w = go (eqb (id_in w) 0) refl
+  where
+    go : (c : Bool) → eqb (id_in w) 0 ≡ c
+        → record { id = id_in w; len = cond (eqb (id_in w) 0) 0 2; used = 2; base = base_in w } ≡ onto no_walk w 2
+    go true e = rw (e, onto) (ap (λ (i : ℕ). record { id = i; len = 0; used = 2; base = base_in w }) (eqb-true (id_in w) 0 e))
+    go false e = rw (e, onto)
 
 -- ---- the walk over the bytes from a place on
 
@@ -184,45 +115,44 @@ long-enter m [] h = absurd (omega arith)
 long-enter m (a ∷ []) h = absurd (omega arith)
 long-enter m (a ∷ b ∷ s) h = refl
 
+-- the part of a list from i on, as the code takes it
+abbrev pub from_place : List ℕ → ℕ → List ℕ
+from_place s i = take (length s - i) (drop i s)
+
 -- with the bytes after the first two cut where the walk must end
 pub walk-long : (m : Memory) (s : List ℕ) → 2 ≤ length s
-    → enter m.table (get_or m.roots (get_or s 0 0 * 256 + get_or s 1 0) 0) (take (min (length (drop 2 s)) 253) (drop 2 s)) ≡ walk_on m s
+    → enter m.table (get_or m.roots (get_or s 0 0 * 256 + get_or s 1 0) 0) (take (min (length (from_place s 2)) 253) (from_place s 2))
+    ≡ walk_on m s
 walk-long m s h =
     let turn : min (length (drop 2 s)) 253 ≡ min 253 (length (drop 2 s)) = omega arith in
-    ap (enter m.table _) (ap (λ (n : ℕ). take n (drop 2 s)) turn ∙ take_min 253 (drop 2 s)) ∙ long-enter m s h
+    rw (take_rest s 2) (ap (enter m.table _) (ap (λ (n : ℕ). take n (drop 2 s)) turn ∙ take_min 253 (drop 2 s)) ∙ long-enter m s h)
 
 -- ---- the match
 
 module _ (m : Memory) where
-  one-where : (s : List ℕ) → 1 ≤ length s → eqb (walk_on m s).id 0 ≡ true → one (get_or m.single (get_or s 0 0) (pos 0)) ≡ match_on m s
+  pub match-long : (s : List ℕ) → 1 ≤ length s → (t : Match) → Some t ≡ longest (walk_on m s) → match_of (Some t) ≡ match_on m s
   unfolding match_on
-  one-where [] h z = absurd (omega arith)
-  one-where (a ∷ s) h z = rw (z, match_on)
+  match-long [] h t e = absurd (omega arith)
+  match-long (b ∷ s) h t e = go (eqb (walk_on m (b ∷ s)).id 0) refl
+    where
+      walked : Walk
+      walked = walk_on m (b ∷ s)
 
-  found-where : (s : List ℕ) → 1 ≤ length s → eqb (walk_on m s).id 0 ≡ false → found (walk_on m s).id (walk_on m s).len ≡ match_on m s
+      go : (c : Bool) → eqb walked.id 0 ≡ c → match_of (Some t) ≡ match_on m (b ∷ s)
+      go true z = let n : Some t ≡ None = rw z at e in cc
+      go false z =
+          let n : Some t ≡ Some (record { id = walked.id; len = walked.len }) = rw z at e in
+          ap match_of n ∙ sym (rw (z, match_on))
+
+  pub match-one : (s : List ℕ) → 1 ≤ length s → None ≡ longest (walk_on m s)
+      → one (get_or m.single (get_or s 0 0) (pos 0)) ≡ match_on m s
   unfolding match_on
-  found-where [] h z = absurd (omega arith)
-  found-where (a ∷ s) h z = rw (z, match_on)
+  match-one [] h e = absurd (omega arith)
+  match-one (b ∷ s) h e = go (eqb (walk_on m (b ∷ s)).id 0) refl
+    where
+      walked : Walk
+      walked = walk_on m (b ∷ s)
 
-  module _ (s : List ℕ) (some : 1 ≤ length s) (x : Walk) (is : x ≡ walk_of (walk_on m s)) where
-    abbrev walked : spec.Walk
-    walked = walk_on m s
-
-    same : x.longest ≡ longest walked
-    same = ap (λ (k : Walk). k.longest) is
-
-    pub match-long : (t : Match) → x.longest ≡ Some t → match_of (Some t) ≡ match_on m s
-    match-long t e = go (eqb walked.id 0) refl (sym e ∙ same)
-      where
-        go : (c : Bool) → eqb walked.id 0 ≡ c → Some t ≡ longest walked → match_of (Some t) ≡ match_on m s
-        go true z n = let n : Some t ≡ None = rw z at n in cc
-        go false z n =
-            let n : Some t ≡ Some (record { id = walked.id; len = walked.len }) = rw z at n in
-            ap match_of n ∙ found-where s some z
-
-    pub match-one : x.longest ≡ None → one (get_or m.single (get_or s 0 0) (pos 0)) ≡ match_on m s
-    match-one e = go (eqb walked.id 0) refl (sym e ∙ same)
-      where
-        go : (c : Bool) → eqb walked.id 0 ≡ c → None ≡ longest walked → one (get_or m.single (get_or s 0 0) (pos 0)) ≡ match_on m s
-        go true z n = one-where s some z
-        go false z n = let n : ◌≡◌ {A = Option Match} None (Some (record { id = walked.id; len = walked.len })) = rw z at n in cc
+      go : (c : Bool) → eqb walked.id 0 ≡ c → one (get_or m.single b (pos 0)) ≡ match_on m (b ∷ s)
+      go true z = sym (rw (z, match_on))
+      go false z = let n : ◌≡◌ {A = Option Match} None (Some (record { id = walked.id; len = walked.len })) = rw z at e in cc

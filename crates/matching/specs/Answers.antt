@@ -2,8 +2,9 @@
 use Rattle.std.specs.Prelude.{cond, List, ℕ, eqb, get_or, Option, None, Some}
 use Rattle.std.specs.Int.Bits.{bit_xor}
 use Rattle.spec.specs.Match as spec
-use Rattle.spec.specs.Match.{goes}
+use Rattle.spec.specs.Match.{goes, id_in, base_in}
 use Rattle.matching.specs.declared.Walk.{Walk}
+use Rattle.matching.specs.declared.Trail.{Trail}
 use Rattle.matching.specs.declared.Match.{Match}
 
 -- the last token that a walk passed: "length 0: none", and then its id is 0
@@ -12,6 +13,10 @@ longest k = cond (eqb k.id 0) None (Some (record { id = k.id; len = k.len }))
 
 abbrev pub walk_of : spec.Walk → Walk
 walk_of k = record { longest = longest k; used = k.used; base = k.base }
+
+-- its words tell the rest; the length counts only where there is an id
+abbrev pub trail_of : Trail → spec.Walk
+trail_of t = record { id = id_in t.best; len = cond (eqb (id_in t.best) 0) 0 t.len; used = t.used; base = base_in t.word }
 
 abbrev pub match_of : Option Match → spec.Match
 match_of (Some m) = spec.found m.id m.len

@@ -2,12 +2,11 @@
 // with a definition of `spec`; a private function is lent only the parts of the memory that it reads.
 #![tactic(auto)]
 
-ghost use Rattle.std.specs.Prelude.{◌≡◌, List, [], ◌∷◌, ℕ, ◌+◌, ◌≤◌, ◌<◌, ℤ, pos, length, get_or};
+ghost use Rattle.std.specs.Prelude.{◌≡◌, List, [], ◌∷◌, ℕ, ◌+◌, ◌≤◌, ◌<◌, ℤ, pos, length, drop, get_or};
 ghost use Rattle.spec.specs.Memory.{memory};
-ghost use Rattle.spec.specs.Match as spec;
-ghost use Rattle.spec.specs.Match.{id_in, onto, enter, walk_on, one, match_on, undecided_on};
+ghost use Rattle.spec.specs.Match.{id_in, base_in, no_walk, onto, enter, walk_on, one, match_on, undecided_on};
 ghost use Rattle.memory.specs.Lent.{cells_of};
-ghost use Rattle.matching.specs.Answers.{walk_of, match_of, child};
+ghost use Rattle.matching.specs.Answers.{walk_of, trail_of, longest, match_of, child};
 
 use memory::Memory;
 
@@ -26,29 +25,51 @@ pub struct Walk {
     pub base: u64,
 }
 
-const NOTHING: Walk = Walk {
-    longest: None,
+// The same walk while it goes, by its words: the last one with an id, and the last. Its length counts only where there is an id.
+// Kept: tried as a Walk with its Option<Match>, with which the encoding of random bytes takes a quarter longer, that of prose a tenth.
+#[derive(Clone, Copy)]
+struct Trail {
+    best: u64,
+    len: usize,
+    used: usize,
+    word: u64,
+}
+
+// Nothing found, nothing used.
+const NOTHING: Trail = Trail {
+    best: 0,
+    len: 0,
     used: 0,
-    base: 0,
+    word: 0,
 };
 
-impl Walk {
+impl Trail {
     // The walk after a word, by one more byte: every later terminal is a longer match.
-    fn onto(self, word: u64) -> Walk
+    fn onto(self, word: u64) -> Trail
         requires { self.used < 255 }
-        ensures { (k : spec.Walk) → self ≡ walk_of k → result ≡ walk_of (onto k word (self.used + 1)) }
+        ensures { trail_of result ≡ onto (trail_of self) word (self.used + 1) }
     {
         let used = self.used + 1;
-        let base = word >> 32;
-        let id = id_in(word);
-        if id == 0 {
-            return Walk { used, base, ..self };
+        if id_in(word) == 0 {
+            return Trail { used, word, ..self };
         }
-        Walk {
-            longest: Some(Match { id, len: used }),
+        Trail {
+            best: word,
+            len: used,
             used,
-            base,
+            word,
         }
+    }
+
+    // The last token passed.
+    fn longest(self) -> Option<Match>
+        ensures { result ≡ longest (trail_of self) }
+    {
+        let id = id_in(self.best);
+        if id == 0 {
+            return None;
+        }
+        Some(Match { id, len: self.len })
     }
 }
 
@@ -60,13 +81,13 @@ fn id_in(word: u64) -> u32
     ((word >> 8) % 65536) as u32
 }
 
-// The word that the byte leads to from a base.
-#[tactic(auto, unfolding(crate::specs::Answers::child, spec::specs::Match::goes))]
-fn child_of(table: &[u64], base: u64, byte: u8) -> Option<u64>
-    ensures { result ≡ child table.now base byte }
+// The word that the byte leads to from a word. Bits 32 to 63 are the base.
+#[tactic(auto, unfolding(crate::specs::Answers::child, spec::specs::Match::base_in, spec::specs::Match::goes))]
+fn child_of(table: &[u64], word: u64, byte: u8) -> Option<u64>
+    ensures { result ≡ child table.now (base_in word) byte }
 {
     let label = u64::from(byte);
-    let next = *table.get((base ^ label) as usize)?;
+    let next = *table.get(((word >> 32) ^ label) as usize)?;
     if next == 0 || next % 256 != label {
         return None;
     }
@@ -74,36 +95,40 @@ fn child_of(table: &[u64], base: u64, byte: u8) -> Option<u64>
 }
 
 // The walk from a root word over the bytes after the first two.
-fn enter(table: &[u64], root: u64, rest: &[u8]) -> Walk
+fn enter(table: &[u64], root: u64, rest: &[u8]) -> Trail
     requires { length rest.now ≤ 253 }
-    ensures { result ≡ walk_of (enter table.now root rest.now) }
+    ensures { trail_of result ≡ enter table.now root rest.now }
 {
     if root == 0 {
         return NOTHING;
     }
-    let first = Walk { used: 1, ..NOTHING };
-    let mut walk = first.onto(root);
-    if walk.longest.is_some() && walk.base == 0 {
-        return walk;
+    let mut trail = Trail {
+        best: root,
+        len: 2,
+        used: 2,
+        word: root,
+    };
+    if id_in(root) != 0 && root >> 32 == 0 {
+        return trail;
     }
     for &byte in rest {
-        let Some(word) = child_of(table, walk.base, byte) else {
-            return walk;
+        let Some(word) = child_of(table, trail.word, byte) else {
+            return trail;
         };
-        walk = walk.onto(word);
-        if walk.base == 0 {
-            return walk;
+        trail = trail.onto(word);
+        if word >> 32 == 0 {
+            return trail;
         }
     }
-    walk
+    trail
 }
 
 // The walk over the bytes that are left, at most 255 of them.
-// Kept: lent two parts; handed the memory as walk_at is, an encoding takes 7% more instructions, a stream in long pieces 13%.
-fn walk_over(roots: &[u64], table: &[u64], rest: &[u8]) -> Walk
+// Kept: lent two parts, and not the memory as walk_at is, with which an encoding takes some hundredths more instructions.
+fn trail_over(roots: &[u64], table: &[u64], rest: &[u8]) -> Trail
     requires { 65536 ≤ length roots.now }
     ensures { (single : List ℤ) (offsets blob : List ℕ) →
-        result ≡ walk_of (walk_on (memory single offsets blob roots.now table.now) rest.now) }
+        trail_of result ≡ walk_on (memory single offsets blob roots.now table.now) rest.now }
 {
     let [first, second, more @ ..] = rest else {
         return NOTHING;
@@ -117,7 +142,12 @@ pub fn walk_at(memory: Memory, rest: &[u8]) -> Walk
     requires { 65536 ≤ length memory.roots.now }
     ensures { result ≡ walk_of (walk_on (cells_of memory.entry) rest.now) }
 {
-    walk_over(memory.roots, memory.table, rest)
+    let trail = trail_over(memory.roots, memory.table, rest);
+    Walk {
+        longest: trail.longest(),
+        used: trail.used,
+        base: trail.word >> 32,
+    }
 }
 
 // The match of one byte: its entry in `single`, of which a negative one is none.
@@ -135,7 +165,8 @@ pub fn match_at(memory: Memory, rest: &[u8]) -> Option<Match>
     requires { (1 ≤ length rest.now) × (256 ≤ length memory.single.now) × (65536 ≤ length memory.roots.now) }
     ensures { match_of result ≡ match_on (cells_of memory.entry) rest.now }
 {
-    let Some(found) = walk_over(memory.roots, memory.table, rest).longest else {
+    let trail = trail_over(memory.roots, memory.table, rest);
+    let Some(found) = trail.longest() else {
         return one_byte(memory.single, rest[0]);
     };
     Some(found)

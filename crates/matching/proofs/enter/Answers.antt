@@ -1,47 +1,65 @@
 -- `matching::enter` meets its contract. The loop's invariant: the walk from here is the walk from the root. Assumes nothing.
-use Rattle.std.proofs.Common.{ap, sym, ◌∙◌, arith, refl, Bool, ◌&&◌, eqb}
+use Rattle.std.proofs.Common.{◌≡◌, not, ◌&&◌, eqb, false, Bool, refl, sym, ap, ◌∙◌, arith, drop_of_length-le}
 use mathlib.Core.Bool.{and-false}
-use borrow.Author.Tests.{ne_eqb}
-use Rattle.std.specs.Option.{is_some}
-use Rattle.matching.specs.Answers.{walk_of}
-use Rattle.matching.proofs.Walking.{enter-none, first_onto, ends-first, goes-first, stops_at, ends_at, goes_on_at, ends_past}
+use borrow.Author.Tests.{eq-eqb, ne_eqb}
+use Rattle.spec.specs.Match.{base_in, id_in, Walk, follow}
+use Rattle.matching.specs.Answers.{trail_of}
+use Rattle.matching.proofs.WalkBounds.{onto-used}
+use Rattle.matching.proofs.Walking.{enter-none, enter-ends, enter-on, first_walk, stops_at, ends_at, goes_on_at}
 use Rattle.matching.proofs.enter.Goals as goal
-use Rattle.matching.proofs.enter.Goals.{else-is_some-via-then-is_some+else-walk-eq0, else-is_some-via-else-is_some}
+use Rattle.matching.proofs.enter.Goals.{else-id_in-ne0-via-then-id_in-ne0+else-root-eq0-2, else-id_in-ne0-via-else-id_in-ne0}
 
 pub returns-then-root-eq0 : goal.returns-then-root-eq0
-returns-then-root-eq0 c = ap walk_of (enter-none _ _ _ c.if-root-eq0.true)
+unfolding id_in base_in
+returns-then-root-eq0 c = enter-none _ _ _ c.if-root-eq0.true
 
-pub returns-then-walk-eq0 : goal.returns-then-walk-eq0
-returns-then-walk-eq0 c =
-    ends-first _ _ _ _ (c.onto-walk.ensures _ refl ∙ ap walk_of (first_onto _)) c.if-root-eq0.false
-    (sym c.is_some.ensures ∙ c.if-is_some.true) c.if-walk-eq0.true
+pub returns-then-root-eq0-2 : goal.returns-then-root-eq0-2
+unfolding base_in
+returns-then-root-eq0-2 c =
+    first_walk _
+    ∙ enter-ends _ _ _ c.if-root-eq0.false
+    (λ z. c.if-id_in-ne0.true (c.id_in.ensures ∙ z)) c.if-root-eq0-2.true
 
 pub loop-byte-init : goal.loop-byte-init
+unfolding base_in
 loop-byte-init c =
-    goes-first _ _ _ _ (c.onto-walk.ensures _ refl ∙ ap walk_of (first_onto _)) c.if-root-eq0.false
-    (elim c.else-is_some.branch [
-      | else-is_some-via-then-is_some+else-walk-eq0 w ↦
-          ap (λ (b : Bool). is_some c.onto-walk.result.longest && b) (ne_eqb c.onto-walk.result.base 0 w.if-walk-eq0.false)
-          ∙ and-false (is_some c.onto-walk.result.longest)
-      | else-is_some-via-else-is_some w ↦
-          ap (λ (a : Bool). a && eqb c.onto-walk.result.base 0) (sym c.is_some.ensures ∙ w.if-is_some.false)
-    ])
+    let test : (not (eqb (id_in c.args.root) 0) && eqb (base_in c.args.root) 0) ≡ false =
+    elim c.else-id_in-ne0.branch [
+      | else-id_in-ne0-via-then-id_in-ne0+else-root-eq0-2 w ↦
+          ap (λ (b : Bool). not (eqb (id_in c.args.root) 0) && b) (ne_eqb (base_in c.args.root) 0 w.if-root-eq0-2.false)
+          ∙ and-false (not (eqb (id_in c.args.root) 0))
+      | else-id_in-ne0-via-else-id_in-ne0 w ↦
+          ap (λ (a : Bool). not a && eqb (base_in c.args.root) 0)
+          (eq-eqb (id_in c.args.root) 0 (sym c.id_in.ensures ∙ w.if-id_in-ne0.false))
+    ] in
+    record {
+      used = refl;
+      same = ap (follow _ _) (first_walk _) ∙ enter-on _ _ _ c.if-root-eq0.false test;
+    }
 
 pub returns-in_default : goal.returns-in_default
-returns-in_default c = stops_at c.loop-byte.invariant c.loop-byte-test.true (sym c.child_of.ensures ∙ c.in_default.is)
+returns-in_default c =
+    stops_at _ _ _ c.loop-byte-test.true _ (sym c.in_default.ensures) ∙ c.loop-byte.invariant.same
 
-pub onto-walk-requires-in-loop-byte : goal.onto-walk-requires-in-loop-byte
-onto-walk-requires-in-loop-byte c = omega (arith, c.loop-byte.invariant.used)
-
-pub returns-then-walk-eq0-2 : goal.returns-then-walk-eq0-2
-returns-then-walk-eq0-2 c =
-    ends_at c.loop-byte.invariant c.loop-byte-test.true _ (sym c.child_of.ensures ∙ c.in-Some.is) _ c.onto-walk-in-loop-byte.ensures
-    c.if-walk-eq0-2.true
+pub returns-then-word-eq0 : goal.returns-then-word-eq0
+unfolding base_in
+returns-then-word-eq0 c =
+    ends_at _ _ _ c.loop-byte-test.true _ _ (sym c.in-Some.ensures) _ c.onto-trail.ensures c.if-word-eq0.true
+    ∙ c.loop-byte.invariant.same
 
 pub loop-byte-preserved : goal.loop-byte-preserved
+unfolding base_in
 loop-byte-preserved c =
-    goes_on_at c.loop-byte.invariant c.loop-byte-test.true _ (sym c.child_of.ensures ∙ c.in-Some.is) _ c.onto-walk-in-loop-byte.ensures
-    c.if-walk-eq0-2.false
+    let n = ap (λ (k : Walk). k.used) c.onto-trail.ensures ∙ onto-used _ _ _ in
+    record {
+      used = omega (arith, n);
+      same =
+          goes_on_at _ _ _ c.loop-byte-test.true _ _ (sym c.in-Some.ensures) _ c.onto-trail.ensures c.if-word-eq0.false
+          ∙ c.loop-byte.invariant.same;
+    }
 
 pub returns : goal.returns
-returns c = ends_past c.loop-byte.invariant c.loop-byte-test.false
+unfolding follow
+returns c =
+    sym (ap (λ l. follow c.args.table.now l (trail_of c.loop-byte.trail))
+    (drop_of_length-le c.args.rest.now c.loop-byte-test.false)) ∙ c.loop-byte.invariant.same
