@@ -43,8 +43,8 @@
  * After 1 and 2, 24 to 26, 34 and a repeated 22 nothing has changed but the report. After 3 to 21 the vocabulary memory is emptied:
  * single all -1, the rest 0. With a new 22, 23, 27, 28 and 29 the ids or bytes made so far stand from the output's start, their
  * number in the report, and the other cells are as they were. But rwkv_decode_lossy writes nothing with 27 and 28, and the index
- * of its 28 is the number of ids. A stream that 22 has stopped gives the same offset and byte again at each later call, with no
- * ids.
+ * of its 28 is the number of ids; it is quickest where the output has three cells for each byte of the tokens, which is room for any
+ * text. A stream that 22 has stopped gives the same offset and byte again at each later call, with no ids.
  */
 #ifndef RWKV_TOKENIZER_H
 #define RWKV_TOKENIZER_H
