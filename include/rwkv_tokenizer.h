@@ -45,6 +45,14 @@
  * number in the report, and the other cells are as they were. But rwkv_decode_lossy writes nothing with 27 and 28, and the index
  * of its 28 is the number of ids; it is quickest where the output has three cells for each byte of the tokens, which is room for any
  * text. A stream that 22 has stopped gives the same offset and byte again at each later call, with no ids.
+ *
+ * Encoding and streams report the bytes looked at, in the fourth cell. For one id that is the longest beginning of the bytes left that
+ * begins some token, and one byte more if one follows and a longer token begins so too; but never fewer than the smaller of two and
+ * the bytes left, and never more than 255. The cell has the sum over the ids given: the place where 22 finds no token and the id that
+ * 23 has no room for are not in it, and with 1, 24 to 26 and a repeated 22 it is 0. Over memory that no load left, it is the bytes
+ * read on the way to the ids given.
+ * A stream's call figures its ids on the bytes then at hand, held and new, so that its calls need not add up to the figure of the
+ * whole: over the vocabulary `1 'a' 1`, the whole aa has 3 (2 and 1); in pieces, a has 1, the second a 1, and the end 0.
  */
 #ifndef RWKV_TOKENIZER_H
 #define RWKV_TOKENIZER_H
@@ -62,6 +70,13 @@ extern "C" {
 #define RWKV_SINGLE 256
 #define RWKV_OFFSETS 65537
 #define RWKV_ROOTS 65536
+
+/* The least length of an array, so that a C compiler can warn of a shorter one. C++ has no such form. */
+#ifdef __cplusplus
+#define RWKV_AT_LEAST(cells) cells
+#else
+#define RWKV_AT_LEAST(cells) static cells
+#endif
 
 /* A trie node, for the work memory of a load. Nothing is asked of what it holds, and after a load it may hold anything. */
 typedef struct {
@@ -82,16 +97,22 @@ typedef struct {
 uint32_t rwkv_load(const uint8_t *text, size_t text_len, uint32_t edition, bool partial, int32_t *single, size_t single_len,
                    uint32_t *offsets, size_t offsets_len, uint8_t *blob, size_t blob_len, uint64_t *roots, size_t roots_len,
                    uint64_t *table, size_t table_len, rwkv_node *nodes, size_t nodes_len, uint64_t *used, size_t used_len,
-                   uint64_t *used_bases, size_t used_bases_len, uint64_t report[6]);
+                   uint64_t *used_bases, size_t used_bases_len, uint64_t report[RWKV_AT_LEAST(6)]);
 
-/* Encodes src. Report: count, offset, byte. */
-uint32_t rwkv_encode(RWKV_MEMORY, const uint8_t *src, size_t src_len, uint32_t *out, size_t out_len, uint64_t report[3]);
+/* Encodes src. It uses no cell of out past the first 2^56 - 1, and 23 counts the others as missing.
+ * Report: count, offset, byte, bytes looked at. In this call, rwkv_add and rwkv_end it has four cells; a caller that was built for a
+ * report of three must be built anew: a linker does not see the difference, and the fourth cell is written. */
+uint32_t rwkv_encode(RWKV_MEMORY, const uint8_t *src, size_t src_len, uint32_t *out, size_t out_len,
+                     uint64_t report[RWKV_AT_LEAST(4)]);
 
 /* Decode ids to bytes; to text, which must be UTF-8; to text with U+FFFD for what is not.
  * Report: bytes written, index (29: the offset), id. */
-uint32_t rwkv_decode(RWKV_MEMORY, const uint32_t *ids, size_t ids_len, uint8_t *out, size_t out_len, uint64_t report[3]);
-uint32_t rwkv_decode_utf8(RWKV_MEMORY, const uint32_t *ids, size_t ids_len, uint8_t *out, size_t out_len, uint64_t report[3]);
-uint32_t rwkv_decode_lossy(RWKV_MEMORY, const uint32_t *ids, size_t ids_len, uint8_t *out, size_t out_len, uint64_t report[3]);
+uint32_t rwkv_decode(RWKV_MEMORY, const uint32_t *ids, size_t ids_len, uint8_t *out, size_t out_len,
+                     uint64_t report[RWKV_AT_LEAST(3)]);
+uint32_t rwkv_decode_utf8(RWKV_MEMORY, const uint32_t *ids, size_t ids_len, uint8_t *out, size_t out_len,
+                          uint64_t report[RWKV_AT_LEAST(3)]);
+uint32_t rwkv_decode_lossy(RWKV_MEMORY, const uint32_t *ids, size_t ids_len, uint8_t *out, size_t out_len,
+                           uint64_t report[RWKV_AT_LEAST(3)]);
 
 /* A stream between two calls. Phase: 0 open, 1 stopped, 2 ended. rwkv_fresh makes one. */
 typedef struct {
@@ -101,12 +122,12 @@ typedef struct {
 
 void rwkv_fresh(rwkv_stream *stream);
 
-/* Takes a piece and hands out the ids that it decides. Report: count, offset, byte. */
+/* Takes a piece and hands out the ids that it decides. Report: count, offset, byte, bytes looked at. */
 uint32_t rwkv_add(RWKV_MEMORY, rwkv_stream *stream, const uint8_t *piece, size_t piece_len, uint32_t *out, size_t out_len,
-                  uint64_t report[3]);
+                  uint64_t report[RWKV_AT_LEAST(4)]);
 
-/* No more bytes come: hands out the remaining ids. Report: count, offset, byte. */
-uint32_t rwkv_end(RWKV_MEMORY, rwkv_stream *stream, uint32_t *out, size_t out_len, uint64_t report[3]);
+/* No more bytes come: hands out the remaining ids. Report: count, offset, byte, bytes looked at. */
+uint32_t rwkv_end(RWKV_MEMORY, rwkv_stream *stream, uint32_t *out, size_t out_len, uint64_t report[RWKV_AT_LEAST(4)]);
 
 #ifdef __cplusplus
 }

@@ -1,7 +1,8 @@
 //! Writes `stdin`, the cases, and `stdout`, the answers. Numbers, places, ids, bytes and tables are what the original Rust crate
 //! gives, of a text of edition 2 in edition 1's spelling; where it has no refusal (1, 17, 18, 21, 23, 28, 34) the documents give the
-//! number, and 2 is the standard library's `from_utf8`. Nothing here is taken from the library. `main.rt` says what a case is. Run in
-//! `rust/`, with RWKV_ORIGINAL naming the original's folder:
+//! number, and 2 is the standard library's `from_utf8`. The bytes looked at, which it does not tell, are document 02's sentence over the
+//! set of all beginnings of tokens. Nothing here is taken from the library. `main.rt` says what a case is. Run in `rust/`, with
+//! RWKV_ORIGINAL naming the original's folder:
 //!
 //!     cargo run --release --bin replay_cases
 
@@ -17,6 +18,9 @@ extern crate original;
 #[path = "../../rust/tests/comparison/groups/generate.rs"]
 mod generate;
 #[cfg(original)]
+#[path = "../../rust/tests/comparison/groups/looked.rs"]
+mod looked;
+#[cfg(original)]
 #[path = "../../rust/tests/comparison/groups/random.rs"]
 mod random;
 #[cfg(original)]
@@ -31,6 +35,7 @@ fn main() -> std::io::Result<()> {
 #[cfg(original)]
 mod asked {
     use super::generate::{counts, full_vocabulary, id, input, tokens_of, vocabulary};
+    use super::looked::Looking;
     use super::original::RwkvTokenizer as Original;
     use super::random::Random;
     use super::theirs::{decoded, encoded, original_load};
@@ -159,9 +164,10 @@ mod asked {
                 // Emptied memory: nothing matches.
                 None => src.first().map_or((0, vec![], 0, 0), |&byte| (22, vec![], 0, u64::from(byte))),
             };
+            let looked = self.original.as_ref().map_or(0, |original| Looking::new(&tokens_of(original)).sum(src, &ids));
             let shown: String = ids.iter().map(|id| format!(" {id}")).collect();
             let case = [&[0, cells as u8], src].concat();
-            self.case('E', &case, number, &[ids.len() as u64, offset, byte], &shown);
+            self.case('E', &case, number, &[ids.len() as u64, offset, byte, looked], &shown);
         }
 
         fn decode(&mut self, ids: &[u32], cells: usize) {
@@ -295,8 +301,8 @@ mod asked {
                 self.load_in(b"1 'a' 1\n", true, ROOM, short);
                 self.load_in(b"\xff", true, ROOM, short);
                 for kind in ['E', 'D', 'U', 'Y'] {
-                    let rest = if kind == 'E' { "" } else { " []" };
-                    self.case(kind, &[short, 9, 0, 0, 1], 1, &[0; 3], rest);
+                    let (report, rest) = if kind == 'E' { (&[0; 4][..], "") } else { (&[0; 3][..], " []") };
+                    self.case(kind, &[short, 9, 0, 0, 1], 1, report, rest);
                 }
             }
             self.encode(b"aab", 9);

@@ -72,7 +72,7 @@ unsafe extern "C" {
     fn rwkv_encode(
         single: *const i32, single_len: usize, offsets: *const u32, offsets_len: usize, blob: *const u8, blob_len: usize,
         roots: *const u64, roots_len: usize, table: *const u64, table_len: usize,
-        src: *const u8, src_len: usize, out: *mut u32, out_len: usize, report: *mut [u64; 3],
+        src: *const u8, src_len: usize, out: *mut u32, out_len: usize, report: *mut [u64; 4],
     ) -> u32;
     fn rwkv_decode(
         single: *const i32, single_len: usize, offsets: *const u32, offsets_len: usize, blob: *const u8, blob_len: usize,
@@ -93,12 +93,12 @@ unsafe extern "C" {
     fn rwkv_add(
         single: *const i32, single_len: usize, offsets: *const u32, offsets_len: usize, blob: *const u8, blob_len: usize,
         roots: *const u64, roots_len: usize, table: *const u64, table_len: usize,
-        stream: *mut Stream, piece: *const u8, piece_len: usize, out: *mut u32, out_len: usize, report: *mut [u64; 3],
+        stream: *mut Stream, piece: *const u8, piece_len: usize, out: *mut u32, out_len: usize, report: *mut [u64; 4],
     ) -> u32;
     fn rwkv_end(
         single: *const i32, single_len: usize, offsets: *const u32, offsets_len: usize, blob: *const u8, blob_len: usize,
         roots: *const u64, roots_len: usize, table: *const u64, table_len: usize,
-        stream: *mut Stream, out: *mut u32, out_len: usize, report: *mut [u64; 3],
+        stream: *mut Stream, out: *mut u32, out_len: usize, report: *mut [u64; 4],
     ) -> u32;
 }
 
@@ -118,9 +118,9 @@ pub fn load(text: &[u8], edition: u32, partial: bool, m: LoadMemory<'_>) -> (u32
     (number, report)
 }
 
-/// `rwkv_encode`: the refusal's number, and count, offset and byte.
-pub fn encode(m: Memory<'_>, src: &[u8], out: &mut [u32]) -> (u32, [u64; 3]) {
-    let mut report = [0; 3];
+/// `rwkv_encode`: the refusal's number, and count, offset, byte and bytes looked at.
+pub fn encode(m: Memory<'_>, src: &[u8], out: &mut [u32]) -> (u32, [u64; 4]) {
+    let mut report = [0; 4];
     // SAFETY: each pointer and length is that of a slice that lives until the call returns; `out` and `report` are lent to it alone.
     let number = unsafe {
         rwkv_encode(
@@ -159,9 +159,9 @@ pub fn fresh() -> Stream {
     stream
 }
 
-/// `rwkv_add`: the refusal's number, and count, offset and byte.
-pub fn add(m: Memory<'_>, stream: &mut Stream, piece: &[u8], out: &mut [u32]) -> (u32, [u64; 3]) {
-    let mut report = [0; 3];
+/// `rwkv_add`: the refusal's number, and count, offset, byte and bytes looked at.
+pub fn add(m: Memory<'_>, stream: &mut Stream, piece: &[u8], out: &mut [u32]) -> (u32, [u64; 4]) {
+    let mut report = [0; 4];
     // SAFETY: each pointer and length is that of a slice that lives until the call returns; the record, `out` and `report` are lent
     // to it alone.
     let number = unsafe {
@@ -174,9 +174,9 @@ pub fn add(m: Memory<'_>, stream: &mut Stream, piece: &[u8], out: &mut [u32]) ->
     (number, report)
 }
 
-/// `rwkv_end`: the refusal's number, and count, offset and byte.
-pub fn end(m: Memory<'_>, stream: &mut Stream, out: &mut [u32]) -> (u32, [u64; 3]) {
-    let mut report = [0; 3];
+/// `rwkv_end`: the refusal's number, and count, offset, byte and bytes looked at.
+pub fn end(m: Memory<'_>, stream: &mut Stream, out: &mut [u32]) -> (u32, [u64; 4]) {
+    let mut report = [0; 4];
     // SAFETY: as in `add`.
     let number = unsafe {
         rwkv_end(

@@ -124,12 +124,30 @@ impl RwkvTokenizer {
 
     /// Encodes any bytes; fails only on a partial vocabulary.
     pub fn encode_bytes(&self, src: &[u8]) -> Result<Vec<u32>, EncodeError> {
+        self.encode_looked(src).map(|(ids, _)| ids)
+    }
+
+    /// Encodes any bytes, and says how many bytes the matcher looked at for all the ids together.
+    ///
+    /// For one id that is the longest beginning of the bytes left that begins some token, and one byte more if one follows and a
+    /// longer token begins so too; but never fewer than the smaller of two and the bytes left, and never more than 255.
+    ///
+    /// ```
+    /// use bombrezen::RwkvTokenizer;
+    ///
+    /// let tokenizer = RwkvTokenizer::from_vocab_str_partial("1 'a' 1\n2 'b' 1\n3 'ab' 2\n4 'abcd' 4\n5 'bc' 2\n").unwrap();
+    /// // Two bytes for a, since b may follow, and the two of ab, after which the input ends.
+    /// assert_eq!(tokenizer.encode_looked(b"aab").unwrap(), (vec![1, 3], 2 + 2));
+    /// // Three for ab, since abcd may come, and the two of bc.
+    /// assert_eq!(tokenizer.encode_looked(b"abbc").unwrap(), (vec![3, 5], 3 + 2));
+    /// ```
+    pub fn encode_looked(&self, src: &[u8]) -> Result<(Vec<u32>, u64), EncodeError> {
         let mut out = vec![0; src.len()];
-        let (number, [count, offset, byte]) = ffi::encode(self.memory(), src, &mut out);
+        let (number, [count, offset, byte, looked]) = ffi::encode(self.memory(), src, &mut out);
         match number {
             0 => {
                 out.truncate(count as usize);
-                Ok(out)
+                Ok((out, looked))
             }
             22 => Err(EncodeError { byte_offset: offset as usize, byte: byte as u8 }),
             number => unreachable!("memory and output of full length were refused: {}", reason(number)),

@@ -18,6 +18,7 @@ options:
   --edition N      the vocabulary's edition, 1 or 2; 1 where nothing is said
   --partial        allow a vocabulary in which bytes have no token of their own
   --show           show the text too, with | between its tokens
+  --looked         encode, stream: tell on standard error how many bytes were looked at
   --text           decode: refuse bytes that are not UTF-8
   --lossy          decode: put U+FFFD for what is not UTF-8";
 
@@ -48,6 +49,7 @@ struct Options {
     edition: u32,
     partial: bool,
     show: bool,
+    looked: bool,
     text: bool,
     lossy: bool,
     words: Vec<Vec<u8>>,
@@ -89,6 +91,7 @@ fn options() -> Result<(String, Options), Failure> {
             b"--edition" => options.edition = edition(words.next())?,
             b"--partial" => options.partial = true,
             b"--show" => options.show = true,
+            b"--looked" => options.looked = true,
             b"--text" => options.text = true,
             b"--lossy" => options.lossy = true,
             b"--" => options.words.extend(words.by_ref()),
@@ -204,10 +207,19 @@ fn print_ids(tokenizer: &RwkvTokenizer, ids: &[u32], show: bool) -> Result<(), F
     Ok(out.flush()?)
 }
 
+/// Tells how many bytes were looked at for so many ids.
+fn print_looked(looked: u64, ids: usize) {
+    eprintln!("looked at {looked} bytes for {ids} ids");
+}
+
 fn encode(options: &Options) -> Result<(), Failure> {
     let tokenizer = options.tokenizer()?;
-    let ids = tokenizer.encode_bytes(&options.input()?).map_err(refused)?;
-    print_ids(&tokenizer, &ids, options.show)
+    let (ids, looked) = tokenizer.encode_looked(&options.input()?).map_err(refused)?;
+    print_ids(&tokenizer, &ids, options.show)?;
+    if options.looked {
+        print_looked(looked, ids.len());
+    }
+    Ok(())
 }
 
 fn decode(options: &Options) -> Result<(), Failure> {
@@ -224,17 +236,22 @@ fn decode(options: &Options) -> Result<(), Failure> {
     Ok(io::stdout().write_all(&bytes.map_err(refused)?)?)
 }
 
-/// Each read is a piece; its ids are printed before the next read.
+/// Each read is a piece; its ids are printed before the next read. What was looked at is told at the end, or where the stream stops.
 fn stream(options: &Options) -> Result<(), Failure> {
     let tokenizer = options.tokenizer()?;
     let mut stream = tokenizer.stream();
     let mut piece = vec![0; 1 << 16];
+    let (mut looked, mut count) = (0, 0);
     loop {
         let len = io::stdin().read(&mut piece)?;
         let mut ids = Vec::new();
         let answer = if len == 0 { stream.end(&mut ids) } else { stream.add(&piece[..len], &mut ids) };
         if !ids.is_empty() {
             print_ids(&tokenizer, &ids, options.show)?;
+        }
+        (looked, count) = (looked + stream.looked(), count + ids.len());
+        if options.looked && (len == 0 || answer.is_err()) {
+            print_looked(looked, count);
         }
         answer.map_err(refused)?;
         if len == 0 {

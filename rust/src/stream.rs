@@ -7,11 +7,12 @@ use crate::{RwkvTokenizer, ffi};
 pub struct Stream {
     tokenizer: RwkvTokenizer,
     record: ffi::Stream,
+    looked: u64,
 }
 
 impl Stream {
     pub(crate) fn new(tokenizer: RwkvTokenizer) -> Self {
-        Self { tokenizer, record: ffi::fresh() }
+        Self { tokenizer, record: ffi::fresh(), looked: 0 }
     }
 
     /// Takes a piece; the ids that it decides go to the end of `ids`, those before a stop too.
@@ -35,17 +36,39 @@ impl Stream {
         &self.record.held[..usize::from(self.record.held_len)]
     }
 
+    /// How many bytes the matcher looked at for the ids that the last call handed out, those before a stop too: as in
+    /// [`RwkvTokenizer::encode_looked`], but of the bytes then at hand, held and new. So the figures of the calls need not add up to
+    /// that of the whole. It is 0 before the first call, and after one that is refused or says again that the stream has stopped.
+    ///
+    /// ```
+    /// use bombrezen::RwkvTokenizer;
+    ///
+    /// let tokenizer = RwkvTokenizer::from_vocab_str_partial("1 'a' 1").unwrap();
+    /// assert_eq!(tokenizer.encode_looked(b"aa").unwrap(), (vec![1, 1], 3));
+    /// let (mut stream, mut ids) = (tokenizer.stream(), Vec::new());
+    /// for piece in [b"a", b"a"] {
+    ///     stream.add(piece, &mut ids).unwrap();
+    ///     assert_eq!(stream.looked(), 1);
+    /// }
+    /// stream.end(&mut ids).unwrap();
+    /// assert_eq!(stream.looked(), 0);
+    /// ```
+    pub fn looked(&self) -> u64 {
+        self.looked
+    }
+
     /// One call, lent `room` cells behind the ids that are there.
     fn call(
         &mut self,
         room: usize,
         ids: &mut Vec<u32>,
-        call: impl FnOnce(ffi::Memory<'_>, &mut ffi::Stream, &mut [u32]) -> (u32, [u64; 3]),
+        call: impl FnOnce(ffi::Memory<'_>, &mut ffi::Stream, &mut [u32]) -> (u32, [u64; 4]),
     ) -> Result<(), StreamError> {
         let before = ids.len();
         ids.resize(before + room, 0);
-        let (number, [count, offset, byte]) = call(self.tokenizer.memory(), &mut self.record, &mut ids[before..]);
+        let (number, [count, offset, byte, looked]) = call(self.tokenizer.memory(), &mut self.record, &mut ids[before..]);
         ids.truncate(before + count as usize);
+        self.looked = looked;
         match number {
             0 => Ok(()),
             22 => Err(StreamError::NoToken(EncodeError { byte_offset: offset as usize, byte: byte as u8 })),

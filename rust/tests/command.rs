@@ -62,6 +62,22 @@ fn streams() {
     assert!((status, out.as_str()) == (1, "3\n") && error.contains("0x63 at byte offset 2"), "{out} {error}");
 }
 
+/// The bytes looked at go to standard error, so that the ids on standard output stay as they are.
+#[test]
+fn tells_the_bytes_looked_at() {
+    let v = file("v_looked.txt", V);
+    let with = |words: &[&str], input: &[u8]| run(&[words, &["--looked", "--vocab", &v, "--partial"]].concat(), input);
+    assert_eq!(with(&["encode", "abbc"], b""), (0, "3 5\n".into(), "looked at 5 bytes for 2 ids\n".into()));
+    assert_eq!(with(&["encode"], b"").2, "looked at 0 bytes for 0 ids\n");
+    assert_eq!(with(&["encode", "--show"], b"aab"), (0, "a|ab\n1 3\n".into(), "looked at 4 bytes for 2 ids\n".into()));
+    let (status, _, error) = with(&["encode", "abc"], b"");
+    assert!(status == 1 && !error.contains("looked"), "{error}");
+    assert_eq!(with(&["stream"], b"abbc"), (0, "3 5\n".into(), "looked at 5 bytes for 2 ids\n".into()));
+    let (status, out, error) = with(&["stream"], b"abc");
+    assert!((status, out.as_str()) == (1, "3\n") && error.starts_with("looked at 3 bytes for 1 ids\n"), "{out} {error}");
+    assert_eq!(run(&["stream"], b"wind calm").2, "");
+}
+
 #[test]
 fn checks() {
     let (status, out, _) = run(&["check", "--partial", &file("v_check.txt", V)], b"");

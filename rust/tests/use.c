@@ -23,16 +23,21 @@ static void load(const char *text, uint32_t edition) {
     printf("\n");
 }
 
-static void print_ids(const char *name, uint32_t number, const uint32_t *ids, const uint64_t report[3]) {
+/* A test gives another number, which a compiler has to warn of. */
+#ifndef CELLS
+#define CELLS 4
+#endif
+
+static void print_ids(const char *name, uint32_t number, const uint32_t *ids, const uint64_t report[4]) {
     printf("%s %" PRIu32 ":", name, number);
     for (uint64_t i = 0; i < report[0]; i++) printf(" %" PRIu32, ids[i]);
     if (number != 0) printf(" (offset %" PRIu64 ", byte %" PRIu64 ")", report[1], report[2]);
-    printf("\n");
+    printf(" looked %" PRIu64 "\n", report[3]);
 }
 
 static void encode(const char *text) {
     uint32_t ids[64];
-    uint64_t report[3];
+    uint64_t report[CELLS];
     uint32_t number = rwkv_encode(MEMORY, BYTES(text), PART(ids), report);
     print_ids(text, number, ids, report);
 }
@@ -48,7 +53,7 @@ static void decode(void) {
 static void stream(const char *const *pieces, size_t count) {
     rwkv_stream stream;
     uint32_t ids[64];
-    uint64_t report[3];
+    uint64_t report[CELLS];
     rwkv_fresh(&stream);
     for (size_t i = 0; i < count; i++) {
         uint32_t number = rwkv_add(MEMORY, &stream, BYTES(pieces[i]), PART(ids), report);
@@ -59,7 +64,7 @@ static void stream(const char *const *pieces, size_t count) {
 }
 
 int main(void) {
-    const char *const pieces[] = {"ab", "b", "c"}, *const stopped[] = {"abc"};
+    const char *const pieces[] = {"ab", "b", "c"}, *const stopped[] = {"abc"}, *const twice[] = {"a", "a"};
     load("0 'a' 1\n", 1);
     load("1 '\xff' 1\n2 '\x80' 1\n", 1);
     load("1 '\\141\\142' 2\n", 2);
@@ -73,5 +78,8 @@ int main(void) {
     decode();
     stream(pieces, LEN(pieces));
     stream(stopped, LEN(stopped));
+    load("1 'a' 1\n", 1);
+    encode("aa");
+    stream(twice, LEN(twice));
     return 0;
 }

@@ -1,5 +1,5 @@
 //! The wrapper on the documents' examples, and where it has to lend more memory.
-use bombrezen::ffi::{self, LoadMemory, Node};
+use bombrezen::ffi::{self, LoadMemory, Memory, Node};
 use bombrezen::{DecodeError, PHRASEOLOGY, Place, Refusal, RwkvTokenizer, StreamError, VocabError, reason};
 
 /// Document 01's vocabulary V.
@@ -74,6 +74,92 @@ fn a_stream_that_stops_says_so_again() {
         let Err(StreamError::NoToken(error)) = stream.end(&mut ids) else { panic!("abc can't be encoded") };
         assert_eq!((error.byte_offset, error.byte, ids.as_slice()), (2, b'c', &[3][..]));
     }
+}
+
+/// Document 02's bytes looked at over V, for each id of a whole input.
+#[test]
+fn v_tells_the_bytes_looked_at() {
+    for (src, ids, looked) in [
+        ("", &[][..], 0),
+        ("a", &[1], 1),
+        ("ab", &[3], 2),
+        ("aab", &[1, 3], 2 + 2),
+        ("abbc", &[3, 5], 3 + 2),
+        ("abcd", &[4], 4),
+        ("abcda", &[4, 1], 4 + 1),
+        ("abcdab", &[4, 3], 4 + 2),
+        ("babb", &[2, 3, 2], 2 + 3 + 1),
+    ] {
+        assert_eq!(v().encode_looked(src.as_bytes()).unwrap(), (ids.to_vec(), looked), "{src}");
+    }
+    assert_eq!(v().encode_looked(b"abc").unwrap_err(), v().encode("abc").unwrap_err());
+}
+
+/// The report of a refused encoding has the figure of the ids that stand, without the place that is refused.
+#[test]
+fn a_refused_encoding_reports_the_bytes_of_its_ids() {
+    let tokenizer = v();
+    let memory = tokenizer.memory();
+    for (src, cells, wanted) in [
+        ("abc", 3, (22, [1, 2, 99, 3])),
+        ("c", 1, (22, [0, 0, 99, 0])),
+        ("abbc", 1, (23, [1, 2, 0, 3])),
+        ("abbc", 0, (23, [0; 4])),
+        ("abcb", 1, (22, [1, 2, 99, 4])),
+        ("abbc", 2, (0, [2, 0, 0, 5])),
+    ] {
+        assert_eq!(ffi::encode(memory, src.as_bytes(), &mut vec![0; cells]), wanted, "{src} in {cells} cells");
+    }
+    let short = Memory { roots: &[], ..memory };
+    assert_eq!(ffi::encode(short, b"a", &mut [0]), (1, [0; 4]));
+}
+
+/// A stream's call tells those of the bytes then at hand: of its ids alone, of none where it gives none or is refused.
+#[test]
+fn a_stream_tells_the_bytes_looked_at() {
+    let mut stream = v().stream();
+    let mut ids = Vec::new();
+    assert_eq!(stream.looked(), 0);
+    for (piece, looked) in [("ab", 0), ("b", 3), ("c", 2), ("abcdab", 4), ("", 0), ("a", 3)] {
+        stream.add(piece.as_bytes(), &mut ids).unwrap();
+        assert_eq!(stream.looked(), looked, "{piece}");
+    }
+    stream.end(&mut ids).unwrap();
+    assert_eq!((stream.looked(), ids.as_slice()), (1, &[3, 5, 4, 3, 1][..]));
+    assert_eq!(stream.add(b"a", &mut ids), Err(StreamError::Ended));
+    assert_eq!(stream.looked(), 0);
+    // The call that stops carries the figure of the ids before the stop, and those after it 0.
+    let mut stream = v().stream();
+    stream.add(b"aabc", &mut ids).unwrap();
+    assert_eq!(stream.looked(), 2);
+    for looked in [3, 0, 0] {
+        assert!(matches!(stream.end(&mut ids), Err(StreamError::NoToken(_))));
+        assert_eq!(stream.looked(), looked);
+    }
+}
+
+/// Pieces need not add up to the whole.
+#[test]
+fn bytes_looked_at_in_pieces_are_of_what_is_at_hand() {
+    let tokenizer = RwkvTokenizer::from_vocab_str_partial("1 'a' 1").unwrap();
+    assert_eq!(tokenizer.encode_looked(b"aa").unwrap(), (vec![1, 1], 3));
+    let (mut stream, mut ids) = (tokenizer.stream(), Vec::new());
+    for looked in [1, 1] {
+        stream.add(b"a", &mut ids).unwrap();
+        assert_eq!(stream.looked(), looked);
+    }
+    stream.end(&mut ids).unwrap();
+    assert_eq!((stream.looked(), ids.as_slice()), (0, &[1, 1][..]));
+}
+
+/// No match looks at more than 255 bytes.
+#[test]
+fn at_most_255_bytes_are_looked_at() {
+    let text = format!("1 'a' 1\n2 '{}' 255\n", "a".repeat(255));
+    let tokenizer = RwkvTokenizer::from_vocab_str_partial(&text).unwrap();
+    let to = |most: u64| (1..=most).sum::<u64>();
+    assert_eq!(tokenizer.encode_looked(&[b'a'; 264]).unwrap(), ([&[2][..], &[1; 9]].concat(), 255 + to(9)));
+    assert_eq!(tokenizer.encode_looked(&[b'a'; 254]).unwrap().1, to(254));
 }
 
 #[test]

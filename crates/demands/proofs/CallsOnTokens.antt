@@ -17,7 +17,9 @@ use Rattle.spec.specs.Answer.{Answer, bare}
 use Rattle.spec.specs.Memory.{Memory, too_short, padded}
 use Rattle.spec.specs.Stream.{StreamRecord, open_phase, ended_phase, holding, stopped_at, Call, add, end, piece_of, again, call_refusal}
 use Rattle.spec.specs.Stream.{scan_on, run_on, Called, unchanged, added, closed, goes_through, call_on}
-use Rattle.spec.specs.Plain.{Phase, opened, stopped, ended, Plain, record_of, Sure, Accepts, Steps, reply_to}
+use Rattle.spec.specs.Looked.{looked_sum}
+use Rattle.spec.specs.LookedOn.{sum_on}
+use Rattle.spec.specs.Plain.{Phase, opened, stopped, ended, Plain, pending_in, record_of, Sure, Accepts, Steps, reply_to}
 use Rattle.running.specs.Prefixes.{bytes_append, bytes_right}
 use Rattle.running.specs.RunLaws.{run-after, scan-after, run-rest}
 use Rattle.running.specs.Claims.{run-resumes, scan-ends, claim_A, stuck_fails, waiting_holds, claim_B_place}
@@ -48,16 +50,22 @@ ended-refused total c = refl
 held_bytes : (held : List ℕ) → take (length held) (padded held 254) ≡ held
 held_bytes held = take-append_seam held _
 
+-- what an add and an end leave of a run and of a scan, where the bytes looked at for the first n ids are `sum n`
+abbrev added_by : (ℕ → ℕ) → ℕ → Run → Called
+added_by sum total u = added total u.ids (sum (length u.ids)) u.stop
+
+abbrev closed_by : (ℕ → ℕ) → ℕ → Scan → Called
+closed_by sum total u = closed total u.ids (sum (length u.ids)) u.end
+
 through_add : (m : Memory) (total : ℕ) (held piece out : List ℕ)
     → goes_through m (holding open_phase total held) (add piece out)
-    ≡ added (total + length piece) (run_on m (total - length held) 0 (held ++ piece)).ids
-    (run_on m (total - length held) 0 (held ++ piece)).stop
+    ≡ added_by (λ (n : ℕ). sum_on m n 0 (held ++ piece)) (total + length piece) (run_on m (total - length held) 0 (held ++ piece))
 unfolding goes_through
 through_add m total held piece out = rw (held_bytes held)
 
 through_end : (m : Memory) (total : ℕ) (held out : List ℕ)
     → goes_through m (holding open_phase total held) (end out)
-    ≡ closed total (scan_on m (total - length held) 0 held).ids (scan_on m (total - length held) 0 held).end
+    ≡ closed_by (λ (n : ℕ). sum_on m n 0 held) total (scan_on m (total - length held) 0 held)
 unfolding goes_through
 through_end m total held out = rw (held_bytes held)
 
@@ -102,6 +110,10 @@ module _ (ts : List Token) (v : Valid ts) (T G : List ℕ) (o : Open ts T G) whe
       let (d, n) = run-rest ts v T o.place o.held o.stop in
       let e : T ≡ joined ts G ++ o.held = sym (ap (λ (is : List ℕ). joined ts is ++ o.held) o.ids ∙ d) in
       ap (drop (length (joined ts G))) e ∙ drop_at (joined ts G) o.held (length (joined ts G)) refl
+
+  pending-is : pending_in ts opened T G ≡ o.held
+  unfolding pending_in
+  pending-is = pending-held
 
   record-open : record_of ts (plain T G opened) ≡ holding open_phase (length T) o.held
   record-open = record_opened ts T G ∙ ap (holding open_phase (length T)) pending-held
@@ -151,22 +163,33 @@ module _ (m : Memory) (ts : List Token) (v : Valid ts) (agrees : Agrees m ts) (T
   -- what an add and an end come to, on the tokens
   open-add : (piece out : List ℕ) → Bytes piece
       → goes_through m (record_of ts (plain T G opened)) (add piece out)
-      ≡ added (length T + length piece) (run_at ts o.place 0 (o.held ++ piece)).ids (run_at ts o.place 0 (o.held ++ piece)).stop
+      ≡ added_by (λ (n : ℕ). looked_sum ts n (o.held ++ piece)) (length T + length piece) (run_at ts o.place 0 (o.held ++ piece))
   open-add piece out h =
       let b : Bytes (o.held ++ piece) = bytes_append o.held piece (held-are-bytes ts v T G o) h in
       rw (record-open ts v T G o, through_add, held_place ts v T G o, run_on_lem m ts agrees o.place 0 (o.held ++ piece) b)
+      (let u = run_at ts o.place 0 (o.held ++ piece) in
+      ap (λ (n : ℕ). added (length T + length piece) u.ids n u.stop) (agrees.sums (o.held ++ piece) b (length u.ids)))
 
   open-end : (out : List ℕ)
       → goes_through m (record_of ts (plain T G opened)) (end out)
-      ≡ closed (length T) (scan_at ts o.place 0 o.held).ids (scan_at ts o.place 0 o.held).end
+      ≡ closed_by (λ (n : ℕ). looked_sum ts n o.held) (length T) (scan_at ts o.place 0 o.held)
   open-end out =
       let b = held-are-bytes ts v T G o in
       rw (record-open ts v T G o, through_end, held_place ts v T G o, scan-on m ts agrees o.place 0 o.held b)
+      (let u = scan_at ts o.place 0 o.held in
+      ap (λ (n : ℕ). closed (length T) u.ids n u.end) (agrees.sums o.held b (length u.ids)))
 
 -- an add that goes through
 module _ (ts : List Token) (v : Valid ts) (T G piece out : List ℕ) (o : Open ts T G) (h : Bytes piece) where
   abbrev more : Run
   more = run_at ts o.place 0 (o.held ++ piece)
+
+  -- the bytes looked at for its ids, on those held and the piece
+  abbrev more_looked : ℕ
+  more_looked = looked_sum ts (length more.ids) (o.held ++ piece)
+
+  looked-more : more_looked ≡ looked_sum ts (length more.ids) (pending_in ts opened T G ++ piece)
+  looked-more = ap (λ (x : List ℕ). looked_sum ts (length more.ids) (x ++ piece)) (sym (pending-is ts v T G o))
 
   run_more : run ts (T ++ piece) ≡ run-after G more
   run_more = run-resumes ts T o.place o.held o.stop piece ∙ ap (λ (is : List ℕ). run-after is more) (sym o.ids)
@@ -185,7 +208,7 @@ module _ (ts : List Token) (v : Valid ts) (T G piece out : List ℕ) (o : Open t
 
   add-waits : (place : ℕ) (held : List ℕ) → more.stop ≡ waiting place held
       → Accepts ts (plain T G opened) (add piece out)
-      (reply_to (add piece out) (added (length T + length piece) more.ids (waiting place held)))
+      (reply_to (add piece out) (added (length T + length piece) more.ids more_looked (waiting place held)))
       (plain (T ++ piece) (G ++ more.ids) opened)
   add-waits place held e =
       let n = open_more place held e in
@@ -198,11 +221,12 @@ module _ (ts : List Token) (v : Valid ts) (T G piece out : List ℕ) (o : Open t
         answer = refl;
         out = refl;
         stream = sym (record-open ts v (T ++ piece) (G ++ more.ids) n ∙ rw length-append);
+        looked = looked-more;
       }
 
   add-sticks : (k b : ℕ) → more.stop ≡ stuck k b
       → Accepts ts (plain T G opened) (add piece out)
-      (reply_to (add piece out) (added (length T + length piece) more.ids (stuck k b)))
+      (reply_to (add piece out) (added (length T + length piece) more.ids more_looked (stuck k b)))
       (plain (T ++ piece) (G ++ more.ids) (stopped k b))
   add-sticks k b e =
       let s : (run ts (T ++ piece)).stop ≡ stuck k b = ap (λ (r : Run). r.stop) run_more ∙ e in
@@ -215,18 +239,29 @@ module _ (ts : List Token) (v : Valid ts) (T G piece out : List ℕ) (o : Open t
         answer = refl;
         out = refl;
         stream = sym (record_stopped ts (T ++ piece) (G ++ more.ids) k b ∙ rw length-append);
+        looked = looked-more;
       }
 
 -- an end that goes through
-module _ (ts : List Token) (T G out : List ℕ) (o : Open ts T G) where
+module _ (ts : List Token) (v : Valid ts) (T G out : List ℕ) (o : Open ts T G) where
   abbrev last : Scan
   last = scan_at ts o.place 0 o.held
+
+  -- the bytes looked at for its ids, on those held
+  abbrev last_looked : ℕ
+  last_looked = looked_sum ts (length last.ids) o.held
+
+  looked-last : last_looked ≡ looked_sum ts (length last.ids) (pending_in ts opened T G ++ [])
+  looked-last =
+      let p : pending_in ts opened T G ++ [] ≡ o.held = append-nil (pending_in ts opened T G) ∙ pending-is ts v T G o in
+      ap (looked_sum ts (length last.ids)) (sym p)
 
   scan-last : scan ts T ≡ scan-after G last
   scan-last = scan-ends ts T o.place o.held o.stop ∙ ap (λ (is : List ℕ). scan-after is last) (sym o.ids)
 
   end-done : last.end ≡ done
-      → Accepts ts (plain T G opened) (end out) (reply_to (end out) (closed (length T) last.ids done)) (plain T (G ++ last.ids) ended)
+      → Accepts ts (plain T G opened) (end out) (reply_to (end out) (closed (length T) last.ids last_looked done))
+      (plain T (G ++ last.ids) ended)
   end-done e = record {
     gained = last.ids;
     taken = sym (append-nil T);
@@ -236,10 +271,11 @@ module _ (ts : List Token) (T G out : List ℕ) (o : Open ts T G) where
     answer = refl;
     out = refl;
     stream = sym (record_ended ts T (G ++ last.ids));
+    looked = looked-last;
   }
 
   end-fails : (k b : ℕ) → last.end ≡ failed k b
-      → Accepts ts (plain T G opened) (end out) (reply_to (end out) (closed (length T) last.ids (failed k b)))
+      → Accepts ts (plain T G opened) (end out) (reply_to (end out) (closed (length T) last.ids last_looked (failed k b)))
       (plain T (G ++ last.ids) (stopped k b))
   end-fails k b e =
       let s : (scan ts T).end ≡ failed k b = ap (λ (r : Scan). r.end) scan-last ∙ e in
@@ -252,6 +288,7 @@ module _ (ts : List Token) (T G out : List ℕ) (o : Open ts T G) where
         answer = refl;
         out = refl;
         stream = sym (record_stopped ts T (G ++ last.ids) k b);
+        looked = looked-last;
       }
 
 -- ---- one call
@@ -263,27 +300,27 @@ module _ (m : Memory) (ts : List Token) (long : too_short m ≡ false) (v : Vali
     where
       go : (z : Stop) → (more ts v T G piece out o h).stop ≡ z → Next m ts (plain T G opened) (add piece out)
       go (waiting place held) s = next-accepted m ts (plain T G opened) (add piece out) long e
-          (added (length T + length piece) (more ts v T G piece out o h).ids (waiting place held))
+          (added (length T + length piece) (more ts v T G piece out o h).ids (more_looked ts v T G piece out o h) (waiting place held))
           (open-add m ts v agrees T G o piece out h ∙ rw s)
           (plain (T ++ piece) (G ++ (more ts v T G piece out o h).ids) opened)
           (add-waits ts v T G piece out o h place held s) (open_more ts v T G piece out o h place held s)
       go (stuck k b) s = next-accepted m ts (plain T G opened) (add piece out) long e
-          (added (length T + length piece) (more ts v T G piece out o h).ids (stuck k b))
+          (added (length T + length piece) (more ts v T G piece out o h).ids (more_looked ts v T G piece out o h) (stuck k b))
           (open-add m ts v agrees T G o piece out h ∙ rw s)
           (plain (T ++ piece) (G ++ (more ts v T G piece out o h).ids) (stopped k b))
           (add-sticks ts v T G piece out o h k b s) tt
 
   next-end : (T G out : List ℕ) (o : Open ts T G) → call_refusal (record_of ts (plain T G opened)) (end out) ≡ None
       → Next m ts (plain T G opened) (end out)
-  next-end T G out o e = go (last ts T G out o).end refl
+  next-end T G out o e = go (last ts v T G out o).end refl
     where
-      go : (z : End) → (last ts T G out o).end ≡ z → Next m ts (plain T G opened) (end out)
+      go : (z : End) → (last ts v T G out o).end ≡ z → Next m ts (plain T G opened) (end out)
       go done s = next-accepted m ts (plain T G opened) (end out) long e
-          (closed (length T) (last ts T G out o).ids done) (open-end m ts v agrees T G o out ∙ rw s)
-          (plain T (G ++ (last ts T G out o).ids) ended) (end-done ts T G out o s) tt
+          (closed (length T) (last ts v T G out o).ids (last_looked ts v T G out o) done) (open-end m ts v agrees T G o out ∙ rw s)
+          (plain T (G ++ (last ts v T G out o).ids) ended) (end-done ts v T G out o s) tt
       go (failed k b) s = next-accepted m ts (plain T G opened) (end out) long e
-          (closed (length T) (last ts T G out o).ids (failed k b)) (open-end m ts v agrees T G o out ∙ rw s)
-          (plain T (G ++ (last ts T G out o).ids) (stopped k b)) (end-fails ts T G out o k b s) tt
+          (closed (length T) (last ts v T G out o).ids (last_looked ts v T G out o) (failed k b)) (open-end m ts v agrees T G o out ∙ rw s)
+          (plain T (G ++ (last ts v T G out o).ids) (stopped k b)) (end-fails ts v T G out o k b s) tt
 
   next-open : (T G : List ℕ) → Open ts T G → (c : Call) → Bytes (piece_of c) → (a : Option Answer)
       → call_refusal (record_of ts (plain T G opened)) c ≡ a → Next m ts (plain T G opened) c

@@ -12,6 +12,7 @@ use Rattle.spec.specs.Plain.{Plain, start, record_of, Follows, reply_to, replies
 use Rattle.spec.specs.Theorems.{Demand3}
 use Rattle.laws.specs.Matching.{matching}
 use Rattle.laws.specs.Deciding.{deciding}
+use Rattle.laws.specs.Looking.{looks-sum}
 use Rattle.demands.proofs.OnTokens.{Agrees}
 use Rattle.demands.proofs.Room.{loaded-long}
 use Rattle.demands.proofs.CallsOnTokens.{Good, next}
@@ -55,6 +56,6 @@ good_start ts = record { bytes = tt; ids = refl; place = 0; held = []; stop = re
 
 pub demand3 : Demand3
 demand3 m ts l cs h =
-    let agrees : Agrees m ts = record { matches = matching m ts l; decides = deciding m ts l } in
+    let agrees : Agrees m ts = record { matches = matching m ts l; decides = deciding m ts l; sums = looks-sum m ts l } in
     let (q, f) = follows m ts (loaded-long m ts l) l.valid agrees start (good_start ts) cs h in
     (q, subst (λ (r : StreamRecord). Follows ts start cs (replies_on m r cs) q) (record_start ts) f)

@@ -10,8 +10,10 @@ use Rattle.spec.specs.Token.{Token}
 use Rattle.spec.specs.Valid.{Valid}
 use Rattle.spec.specs.Scan.{failed}
 use Rattle.spec.specs.Answer.{Answer}
-use Rattle.spec.specs.Stream.{Call, add, end, out_of, call_refusal}
-use Rattle.spec.specs.Plain.{Phase, opened, stopped, ended, Plain, record_of, Gains, Turns, answer_for, Reply, Accepts, Either, Follows}
+use Rattle.spec.specs.Looked.{looked_sum}
+use Rattle.spec.specs.Stream.{Call, add, end, piece_of, out_of, call_refusal}
+use Rattle.spec.specs.Plain.{Phase, opened, stopped, ended, Plain, pending_in, record_of, Gains, Turns, answer_for, Reply}
+use Rattle.spec.specs.Plain.{Accepts, Either, Follows}
 use Rattle.spec.specs.Theorems.{Determined}
 use Rattle.running.specs.Claims.{sure_unique}
 
@@ -63,11 +65,16 @@ module _ (ts : List Token) (p : Plain) (c : Call) (r r' : Reply) (q q' : Plain) 
   same_out : r.out ≡ r'.out
   same_out = a.out ∙ (λ i. over (same-gained i) (out_of c)) ∙ sym a'.out
 
+  same-looked : r.looked ≡ r'.looked
+  same-looked =
+      a.looked ∙ (λ i. looked_sum ts (length (same-gained i)) (pending_in ts p.phase p.taken p.ids ++ piece_of c)) ∙ sym a'.looked
+
   same-reply : r ≡ r'
   same-reply = λ i. record {
     answer = same_answer i;
     out = same_out i;
     stream = (a.stream ∙ ap (record_of ts) same-plain ∙ sym a'.stream) i;
+    looked = same-looked i;
   }
 
 pub determined : Determined

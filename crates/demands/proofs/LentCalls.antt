@@ -1,6 +1,7 @@
 -- Demand 3 of the calls as their contracts have them, lent their stream and by value. Assumes nothing.
 use mathlib.Core.Path.{◌≡◌, sym, ◌∙◌, ap, subst}
 use mathlib.Core.List.{List, [], ◌∷◌, map}
+use lib.ListN.{get_or}
 use Rattle.spec.specs.Token.{Token}
 use Rattle.spec.specs.Memory.{Memory, Loaded}
 use Rattle.spec.specs.Stream.{StreamRecord, Call, Called, call_on}
@@ -34,11 +35,16 @@ module _ {G : Type 0} (left : G → Stream) (Says : Called → Call → G → Ty
 pub demand3-lent : Demand3Lent
 demand3-lent =
     plainly (λ (g : Seen). g.stream) Lent reply_of
-    (λ d c g l. λ i. record { answer = answer_in (l.number i) (l.values i); out = l.cells i; stream = l.stream i })
+    (λ d c g l. λ i. record {
+      answer = answer_in (l.number i) (l.values i);
+      out = l.cells i;
+      stream = l.stream i;
+      looked = get_or (l.values i) 3 0;
+    })
     (λ d c g l. l.stream)
 
 pub demand3-by_value : Demand3ByValue
 demand3-by_value =
     plainly (λ (g : Given). g.called.stream) ByValue reply_given
-    (λ d c g l. λ i. record { answer = l.answer i; out = l.cells i; stream = l.stream i })
+    (λ d c g l. λ i. record { answer = l.answer i; out = l.cells i; stream = l.stream i; looked = l.looked i })
     (λ d c g l. l.stream)

@@ -7,5 +7,6 @@ pub mod Demand3
 pub mod Determined
 pub mod Consequences
 pub mod LentCalls
+pub mod CallSums
 pub mod TextIn
 pub mod FromText

@@ -1,4 +1,5 @@
--- On loaded memory the scan and the running form are those on the tokens, since matching and deciding are. Assumes nothing.
+-- On loaded memory the scan and the running form are those on the tokens, since matching and deciding are; and the bytes looked at add up
+-- as on the tokens. Assumes nothing.
 use mathlib.Core.Path.{◌≡◌, refl, sym, ◌∙◌, ap}
 use mathlib.Core.Bool.{Bool, true, false}
 use Rattle.std.specs.Prelude.{Option, None, Some}
@@ -10,6 +11,8 @@ use Rattle.spec.specs.Token.{Token, longest, proper_prefix, undecided}
 use Rattle.spec.specs.Scan.{scanned, scan_at, ran, run_at}
 use Rattle.spec.specs.Memory.{Memory}
 use Rattle.spec.specs.Match.{match_on, undecided_on}
+use Rattle.spec.specs.Looked.{looked_sum}
+use Rattle.spec.specs.LookedOn.{sum_on}
 use Rattle.spec.specs.Stream.{scan_on, run_on}
 use Rattle.laws.specs.StreamLaws.{scan_on-none, scan_on-some, run_on-waits, run_on-none, run_on-some}
 use Rattle.spec.specs.Theorems.{match_of}
@@ -18,10 +21,12 @@ use Rattle.running.specs.RunLaws.{run-waits, run_none, run-some}
 
 -- ---- memory that matches as the tokens do
 
--- at every byte string the walk finds the longest token, and a string is undecided just where it is so of the tokens
+-- at every byte string the walk finds the longest token, a string is undecided just where it is so of the tokens, and the bytes that the
+-- walks read are those looked at
 pub record Agrees (m : Memory) (ts : List Token) : Type 0 where
   pub matches : (s : List ℕ) → Bytes s → match_on m s ≡ match_of (longest ts s)
   pub decides : (s : List ℕ) → Bytes s → undecided_on m s ≡ undecided ts s
+  pub sums : (s : List ℕ) → Bytes s → (n : ℕ) → sum_on m n 0 s ≡ looked_sum ts n s
 
 undecided-cons : (ts : List Token) (b : ℕ) (s : List ℕ) → undecided ts (b ∷ s) ≡ proper_prefix ts (b ∷ s)
 unfolding undecided

@@ -13,7 +13,7 @@ use Rattle.spec.specs.Utf8.{lossy}
 use Rattle.spec.specs.Token.{Token, joined, present}
 use Rattle.spec.specs.Scan.{scan}
 use Rattle.spec.specs.Memory.{Memory, too_short, Loaded}
-use Rattle.spec.specs.Encode.{Encoding, encoding, encode_answer, Output, encode_on}
+use Rattle.spec.specs.Encode.{Encoding, encoding, encode_answer, Output, usable, encode_on, encode_looked}
 use Rattle.spec.specs.Decode.{lookup, Decoding, decoding, decode_output, decode_on, text_output, decode_text_on, first_absent}
 use Rattle.spec.specs.Decode.{lossy_output}
 use Rattle.spec.specs.Decode.{decode_lossy_on}
@@ -22,6 +22,7 @@ use Rattle.running.specs.ScanLaws.{ids_present, round_trip}
 use Rattle.laws.specs.Tests.{and_l, and_r}
 use Rattle.laws.specs.Spans.{looking, present-bytes}
 use Rattle.laws.specs.Matching.{matching}
+use Rattle.laws.specs.Looking.{looks, looks-sum}
 use Rattle.laws.specs.Encoding.{encoding-is_scan, encoding-is_cut}
 use Rattle.laws.specs.Decoding.{decoding-joins, decoding-stops, decoding-fills}
 use Rattle.loading.specs.Accepted.{full-is_full}
@@ -37,7 +38,7 @@ room-table table used bases = omega arith
 
 -- on memory that is long enough, an entry answers by its definition without number 1
 module _ (m : Memory) (long : too_short m ≡ false) (n : ℕ) where
-  encode-on : (s : List ℕ) (e : Encoding) → encoding m n s ≡ e
+  encode-on : (s : List ℕ) (e : Encoding) → encoding m (usable n) s ≡ e
       → encode_on m n s ≡ record { answer = encode_answer (length e.ids) e.end; cells = e.ids }
   unfolding encode_on
   encode-on s e q = rw (long, encode_on) (ap (λ (x : Encoding). encode_output x) q)
@@ -75,18 +76,20 @@ module _ {m : Memory} {ts : List Token} (L : Loaded m ts) where
       go [] e h r = absurd (let k = ap length e in omega arith)
       go (b ∷ bs) e h r = rw (e, first_absent) r
 
-  looked : (ids : List ℕ) → each (lookup m) ids ≡ joined ts ids
+  looked-up : (ids : List ℕ) → each (lookup m) ids ≡ joined ts ids
   unfolding each joined
-  looked [] = refl
-  looked (i ∷ ids) = ap₂ (λ (x y : List ℕ). x ++ y) (looking m ts L i) (looked ids)
+  looked-up [] = refl
+  looked-up (i ∷ ids) = ap₂ (λ (x y : List ℕ). x ++ y) (looking m ts L i) (looked-up ids)
 
 -- loaded memory gives what its tokens say
 pub loaded-gives : (m : Memory) (ts : List Token) → Loaded m ts → Gives ts m
 loaded-gives m ts L =
     let l = loaded-long m ts L in record {
       matches = matching m ts L;
-      encodes = λ s h n k. encode-on m l n s _ (encoding-is_scan m ts L s h n k);
-      cuts = λ s h n k. encode-on m l n s _ (encoding-is_cut m ts L s h n k);
+      looks = looks m ts L;
+      encodes = λ s h n k. encode-on m l n s _ (encoding-is_scan m ts L s h (usable n) k);
+      cuts = λ s h n k. encode-on m l n s _ (encoding-is_cut m ts L s h (usable n) k);
+      totals = λ s h n. unfold encode_looked in looks-sum m ts L s h (length (encode_on m n s).cells);
       decodes = λ ids p n k. decode-on m l n ids _ (decoding-joins m ts L ids p n k);
       stops = λ ids p i rest a n k. decode-on m l n (ids ++ i ∷ rest) _ (decoding-stops m ts L ids p i rest a n k);
       fills = λ ids p i rest a n k f. decode-on m l n (ids ++ i ∷ rest) _ (decoding-fills m ts L ids p i rest a n k f);
@@ -97,7 +100,7 @@ loaded-gives m ts L =
             cells =
                 lossy bs;
           })
-          (looked L ids) (lossy-on m l n ids (none-absent L ids 0 p)) k;
+          (looked-up L ids) (lossy-on m l n ids (none-absent L ids 0 p)) k;
       returns = λ s e n k. back l s (round_trip ts L.valid s e) n k;
       streams = demand3 m ts L;
       lent = demand3-lent m ts L;

@@ -1,22 +1,24 @@
 -- What the demands come to, as statements: each theorem is a named type, and a proof of it, in proofs/, has exactly this type. Read them
 -- after `spec` Theorems, whose theorems speak of the definitions; these speak of what the contracts of the calls promise. Demand 3 is one
 -- theorem, from a text to the calls that are linked: `Demand3FromText`, last. Assumes nothing.
-use Rattle.std.specs.Prelude.{◌≡◌, List, [], ◌∷◌, map, ◌++◌, ℕ, ◌+◌, ◌≤◌, ◌<◌, get_or, length, take, Bool, true, false}
+use Rattle.std.specs.Prelude.{◌≡◌, List, [], ◌∷◌, map, ◌++◌, ℕ, ◌+◌, ◌*◌, ◌≤◌, ◌<◌, get_or, length, take, Bool, true, false}
 use Rattle.spec.specs.Token.{Token, longest, bytes_of, joined, present, Full}
 use Rattle.spec.specs.Answer.{Answer, whole}
 use Rattle.spec.specs.Memory.{Memory, Loaded, memory_of}
-use Rattle.spec.specs.Stream.{fresh, Call, out_of, Called, call_on}
+use Rattle.spec.specs.Stream.{StreamRecord, fresh, Call, out_of, Called, call_on}
 use Rattle.spec.specs.Plain.{Plain, start, Reply, Follows, replies_on, BytePieces}
 use Rattle.stream_record.specs.declared.Stream.{Stream}
 use Rattle.stream_record.specs.declared.Called as stream
-use Rattle.stream_record.specs.Answers.{record_of, answer_of, Answered}
+use Rattle.stream_record.specs.Answers.{record_of, answer_of, looked_of, Answered}
 use Rattle.reports.specs.Leaves.{Leaves}
 use Rattle.spec.specs.Lists.{all, Bytes}
 use Rattle.spec.specs.Utf8.{first_bad, lossy}
 use Rattle.spec.specs.Scan.{done, scan}
 use Rattle.spec.specs.Valid.{Valid}
 use Rattle.spec.specs.Match.{match_on}
-use Rattle.spec.specs.Encode.{encode_answer, encode_on}
+use Rattle.spec.specs.Looked.{looked, looked_sum}
+use Rattle.spec.specs.LookedOn.{looked_on}
+use Rattle.spec.specs.Encode.{encode_answer, usable, encode_on, encode_looked}
 use Rattle.spec.specs.Decode.{decode_on, text_answer, decode_text_on, decode_lossy_on}
 use Rattle.spec.specs.Load.{table_room, Form, vocabulary, nowhere, accepted, load, goes, start_of, counts_of, LoadResult, load_on}
 use Rattle.spec.specs.Theorems.{match_of, encode_end}
@@ -54,13 +56,18 @@ pub record Seen : Type 0 where
   pub stream : Stream
   pub out : List ℕ
 
--- a number and a report, as an answer: count, place, value
+-- a number and a report, as an answer: count, place, value; the fourth cell has the bytes looked at
 abbrev pub answer_in : ℕ → List ℕ → Answer
 answer_in number report = record { number = number; count = get_or report 0 0; place = get_or report 1 0; value = get_or report 2 0 }
 
 -- what was seen, as a reply of the plain stream
 abbrev pub reply_of : Seen → Reply
-reply_of g = record { answer = answer_in g.number g.report; out = g.out; stream = record_of g.stream }
+reply_of g = record {
+  answer = answer_in g.number g.report;
+  out = g.out;
+  stream = record_of g.stream;
+  looked = get_or g.report 3 0;
+}
 
 -- what the contracts of `rwkv_add` and `rwkv_end` say of it
 abbrev pub Lent : Called → Call → Seen → Type 0
@@ -82,7 +89,12 @@ pub record Given : Type 0 where
   pub out : List ℕ
 
 abbrev pub reply_given : Given → Reply
-reply_given g = record { answer = answer_of g.called.answer; out = g.out; stream = record_of g.called.stream }
+reply_given g = record {
+  answer = answer_of g.called.answer;
+  out = g.out;
+  stream = record_of g.called.stream;
+  looked = looked_of g.called.answer;
+}
 
 -- what the contracts of `add` and `end` say of it
 abbrev pub ByValue : Called → Call → Given → Type 0
@@ -95,6 +107,24 @@ CallsByValue = Made (λ (g : Given). g.called.stream) ByValue
 abbrev pub Demand3ByValue : Type 0
 Demand3ByValue = (m : Memory) (ts : List Token) → Loaded m ts → Plainly reply_given (CallsByValue m) ts
 
+-- ---- the bytes looked at
+
+-- Document 02, W-202: "A stream call carries the sum for the ids that it hands out". The sum is at most 255 for each of them, on any memory
+-- and any stream: as the definition has it, and as a caller sees it of a call that is lent its stream and of one by value.
+abbrev pub SumShort : Answer → ℕ → Type 0
+SumShort a looked = looked ≤ 255 * a.count
+
+abbrev pub CallShort : Type 0
+CallShort = (m : Memory) (r : StreamRecord) (c : Call) → SumShort (call_on m r c).answer (call_on m r c).looked
+
+abbrev pub CallShortLent : Type 0
+CallShortLent = (m : Memory) (s : Stream) (c : Call) (g : Seen) → Lent (call_on m (record_of s) c) c g
+    → SumShort (reply_of g).answer (reply_of g).looked
+
+abbrev pub CallShortByValue : Type 0
+CallShortByValue = (m : Memory) (s : Stream) (c : Call) (g : Given) → ByValue (call_on m (record_of s) c) c g
+    → SumShort (reply_given g).answer (reply_given g).looked
+
 -- ── Text in, ids out ─────────────────────────────────────────────────
 
 -- For every text, of either edition, that a load accepts, what matching, encoding, decoding and the running encoder give over the memory
@@ -104,20 +134,24 @@ Demand3ByValue = (m : Memory) (ts : List Token) → Loaded m ts → Plainly repl
 pub record Gives (ts : List Token) (m : Memory) : Type 0 where
   -- a match is the longest token
   pub matches : (s : List ℕ) → Bytes s → match_on m s ≡ match_of (longest ts s)
+  -- how far it looks
+  pub looks : (s : List ℕ) → Bytes s → looked_on m s ≡ looked ts s
   -- an encoding is the scan, where the output has room for its ids
-  pub encodes : (s : List ℕ) → Bytes s → (n : ℕ) → length (scan ts s).ids ≤ n
+  pub encodes : (s : List ℕ) → Bytes s → (n : ℕ) → length (scan ts s).ids ≤ usable n
       → encode_on m n s ≡ record { answer = encode_answer (length (scan ts s).ids) (encode_end (scan ts s).end); cells = (scan ts s).ids }
-  -- else its first n ids, and 23 where their bytes end
-  pub cuts : (s : List ℕ) → Bytes s → (n : ℕ) → n < length (scan ts s).ids
+  -- else as many of them as it has room for, and 23 where their bytes end
+  pub cuts : (s : List ℕ) → Bytes s → (n : ℕ) → usable n < length (scan ts s).ids
       → encode_on m n s ≡ record {
         answer = record {
           number = 23;
-          count = length (take n (scan ts s).ids);
-          place = length (joined ts (take n (scan ts s).ids));
+          count = length (take (usable n) (scan ts s).ids);
+          place = length (joined ts (take (usable n) (scan ts s).ids));
           value = 0;
         };
-        cells = take n (scan ts s).ids;
+        cells = take (usable n) (scan ts s).ids;
       }
+  -- the bytes looked at for the ids that it gives, added up, are those for as many of the scan
+  pub totals : (s : List ℕ) → Bytes s → (n : ℕ) → encode_looked m n s ≡ looked_sum ts (length (encode_on m n s).cells) s
   -- a list of present ids decodes to its tokens joined, where these fit
   pub decodes : (ids : List ℕ) → all (present ts) ids ≡ true → (n : ℕ) → length (joined ts ids) ≤ n
       → decode_on m n ids ≡ record { answer = whole (length (joined ts ids)); cells = joined ts ids }

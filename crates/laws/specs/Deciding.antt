@@ -56,7 +56,7 @@ module _ {m : Memory} {ts : List Token} (L : Loaded m ts) where
       omega (arith, roots-long)
 
   -- s is a proper prefix of a token where s and one more byte are a node
-  node-proper : (s : List ℕ) (c : ℕ) → Mem (s ++ (c ∷ [])) (nodes ts) → proper_prefix ts s ≡ true
+  pub node-proper : (s : List ℕ) (c : ℕ) → Mem (s ++ (c ∷ [])) (nodes ts) → proper_prefix ts s ≡ true
   node-proper s c k =
       let n = node-is ts k in
       (proper_iff ts s).1 (n.tok, n.mem, (c, n.cut.rest, n.cut.split ∙ append_assoc s (c ∷ []) n.cut.rest))
@@ -98,7 +98,7 @@ module _ {m : Memory} {ts : List Token} (L : Loaded m ts) where
   -- ---- two or more bytes: where the walk ends
 
   -- a node whose base is not 0 has a child
-  base-child : (p : List ℕ) → 1 ≤ base_of (puts ts) p → (c : ℕ) × Mem (p ++ (c ∷ [])) (nodes ts)
+  pub base-child : (p : List ℕ) → 1 ≤ base_of (puts ts) p → (c : ℕ) × Mem (p ++ (c ∷ [])) (nodes ts)
   base-child p h = go (base_cases (puts ts) p)
     where
       some-label : (ls : List ℕ) → 1 ≤ length ls → (c : ℕ) × Mem c ls

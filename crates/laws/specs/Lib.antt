@@ -24,6 +24,8 @@ pub mod Reads
 pub mod WalkLaws
 pub mod Matching
 pub mod Deciding
+pub mod SumLaws
+pub mod Looking
 pub mod Spans
 pub mod Decoding
 pub mod Encoding

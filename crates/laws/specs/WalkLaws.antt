@@ -137,7 +137,7 @@ module _ {ts : List Token} (v : Valid ts) where
       go false r = record { used-eq = len; base-eq = refl; passed = r }
 
   -- a node of base 0 has no child
-  leaf-stops : (p : List ℕ) → Mem p (nodes ts) → base_of (puts ts) p ≡ 0 → (b : ℕ) → Mem (p ++ (b ∷ [])) (nodes ts) → ⊥
+  pub leaf-stops : (p : List ℕ) → Mem p (nodes ts) → base_of (puts ts) p ≡ 0 → (b : ℕ) → Mem (p ++ (b ∷ [])) (nodes ts) → ⊥
   leaf-stops p m z b k = let h = base-pos ts v p (placed ts v p m (mem_pos (node_label (nodes ts) p b k))) in omega arith
 
   pub node-long : {p : List ℕ} → Mem p (nodes ts) → 2 ≤ length p

@@ -1,5 +1,6 @@
 -- What the proofs of several functions use, on lists, and what bounds a match.
 pub mod WalkBounds
 pub mod Walking
+pub mod Reading
 pub mod Row
-pub mod Places
+pub mod BytesLeft

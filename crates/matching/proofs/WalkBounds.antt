@@ -1,14 +1,15 @@
 -- What bounds a walk and a match: at most 255 bytes, no more than there are, and no empty token. Assumes nothing.
-use mathlib.Core.Path.{◌≡◌, refl, sym, ◌∙◌, subst}
+use mathlib.Core.Path.{◌≡◌, refl, sym, ap, ◌∙◌, subst}
 use mathlib.Core.Bool.{Bool, true, false, not, ◌&&◌}
 use mathlib.Core.List.{List, [], ◌∷◌}
-use Prim.Native.Nat.{ℕ, suc, ◌+◌, ◌*◌, ◌≤◌, min}
+use Prim.Native.Nat.{ℕ, suc, ◌+◌, ◌-◌, ◌*◌, ◌≤◌, ◌<◌, min}
 use native.Mathlib.Omega.{arith}
 use lib.IntN.{ℤ, pos, negsuc}
 use lib.Dec.{eqb}
 use lib.Bits.{bit_xor}
-use lib.ListN.{length, take, get_or, length-take}
+use lib.ListN.{length, take, drop, get_or, length-take, length-drop}
 use borrow.Author.Tests.{eqb-false}
+use Rattle.std.proofs.lemmas.List.{take_rest}
 use Rattle.spec.specs.Memory.{Memory}
 use Rattle.spec.specs.Match.{goes, id_in, base_in, Walk, no_walk, onto, follow, enter, walk_on, found, one, match_on}
 
@@ -118,3 +119,8 @@ match_within m (a ∷ s) i n e = go (eqb k.id 0) refl
         let long : match_on m (a ∷ s) ≡ found k.id k.len = rw (z, match_on) in
         let same : k.len ≡ n = cc in
         (omega (arith, bounds.real (eqb-false k.id 0 z)), omega (arith, bounds.len, bounds.used))
+
+-- what a match leaves of the bytes is shorter
+pub match_leaves : (m : Memory) (s : List ℕ) (i n : ℕ) → match_on m s ≡ found i n → length (take (length s - n) (drop n s)) < length s
+match_leaves m s i n e =
+    let w = match_within m s i n e in omega (arith, w.0, w.1, ap length (take_rest s n), length-drop n s)

@@ -14,27 +14,36 @@ use Rattle.matching.specs.Answers.{child, longest, match_of}
 
 -- ---- one byte
 
-module _ (table : List ℕ) (b : ℕ) (s : List ℕ) (k : Walk) where
-  abbrev slot : ℕ
-  slot = get_or table (bit_xor k.base b) 0
+-- the word where byte b stands from a base
+abbrev pub slot : List ℕ → ℕ → ℕ → ℕ
+slot table base b = get_or table (bit_xor base b) 0
 
+module _ (table : List ℕ) (base b : ℕ) where
+  pub leads-nowhere : child table base b ≡ None → goes (slot table base b) b ≡ false
+  unfolding child
+  leads-nowhere e = go (goes (slot table base b) b) refl
+    where
+      go : (c : Bool) → goes (slot table base b) b ≡ c → goes (slot table base b) b ≡ false
+      go true g = let z : Some (slot table base b) ≡ None = rw g at e in cc
+      go false g = g
+
+  pub leads : (w : ℕ) → child table base b ≡ Some w → (goes (slot table base b) b ≡ true) × (slot table base b ≡ w)
+  unfolding child
+  leads w e = go (goes (slot table base b) b) refl
+    where
+      go : (c : Bool) → goes (slot table base b) b ≡ c → (goes (slot table base b) b ≡ true) × (slot table base b ≡ w)
+      go true g = let z : Some (slot table base b) ≡ Some w = rw g at e in (g, cc)
+      go false g = let z : None ≡ Some w = rw g at e in cc
+
+module _ (table : List ℕ) (b : ℕ) (s : List ℕ) (k : Walk) where
   -- the byte leads nowhere: the walk ends before it
   pub stops : child table k.base b ≡ None → k ≡ follow table (b ∷ s) k
-  unfolding child follow
-  stops e = go (goes slot b) refl
-    where
-      go : (c : Bool) → goes slot b ≡ c → k ≡ follow table (b ∷ s) k
-      go true g = let z : Some slot ≡ None = rw g at e in cc
-      go false g = rw (g, follow)
+  unfolding follow
+  stops e = rw (leads-nowhere table k.base b e, follow)
 
   module _ (w : ℕ) (e : child table k.base b ≡ Some w) where
-    there : (goes slot b ≡ true) × (slot ≡ w)
-    unfolding child
-    there = go (goes slot b) refl
-      where
-        go : (c : Bool) → goes slot b ≡ c → (goes slot b ≡ true) × (slot ≡ w)
-        go true g = let z : Some slot ≡ Some w = rw g at e in (g, cc)
-        go false g = let z : None ≡ Some w = rw g at e in cc
+    there : (goes (slot table k.base b) b ≡ true) × (slot table k.base b ≡ w)
+    there = leads table k.base b w e
 
     -- the word has base 0: the walk ends after the byte
     pub ends : base_in w ≡ 0 → onto k w (k.used + 1) ≡ follow table (b ∷ s) k
@@ -119,13 +128,21 @@ long-enter m (a ∷ b ∷ s) h = refl
 abbrev pub from_place : List ℕ → ℕ → List ℕ
 from_place s i = take (length s - i) (drop i s)
 
--- with the bytes after the first two cut where the walk must end
-pub walk-long : (m : Memory) (s : List ℕ) → 2 ≤ length s
-    → enter m.table (get_or m.roots (get_or s 0 0 * 256 + get_or s 1 0) 0) (take (min (length (from_place s 2)) 253) (from_place s 2))
-    ≡ walk_on m s
-walk-long m s h =
+-- the bytes after the first two, cut where the walk must end
+abbrev pub cut : List ℕ → List ℕ
+cut s = take (min (length (from_place s 2)) 253) (from_place s 2)
+
+pub cut-is : (s : List ℕ) → cut s ≡ take 253 (drop 2 s)
+cut-is s =
     let turn : min (length (drop 2 s)) 253 ≡ min 253 (length (drop 2 s)) = omega arith in
-    rw (take_rest s 2) (ap (enter m.table _) (ap (λ (n : ℕ). take n (drop 2 s)) turn ∙ take_min 253 (drop 2 s)) ∙ long-enter m s h)
+    rw (take_rest s 2) (ap (λ (n : ℕ). take n (drop 2 s)) turn ∙ take_min 253 (drop 2 s))
+
+-- the root of the first two bytes
+abbrev pub root_in : Memory → List ℕ → ℕ
+root_in m s = get_or m.roots (get_or s 0 0 * 256 + get_or s 1 0) 0
+
+pub walk-long : (m : Memory) (s : List ℕ) → 2 ≤ length s → enter m.table (root_in m s) (cut s) ≡ walk_on m s
+walk-long m s h = ap (enter m.table (root_in m s)) (cut-is s) ∙ long-enter m s h
 
 -- ---- the match
 

@@ -1,10 +1,11 @@
-// The longest match at a place of the input, given the bytes from there on, on any vocabulary memory. Each public contract is an equation
-// with a definition of `spec`; a private function is lent only the parts of the memory that it reads.
+// The longest match at a place of the input and the bytes looked at for it, given the bytes from there on, on any vocabulary memory. Each
+// public contract is an equation with a definition of `spec`; a private function is lent only the parts of the memory that it reads.
 #![tactic(auto)]
 
 ghost use Rattle.std.specs.Prelude.{◌≡◌, List, [], ◌∷◌, ℕ, ◌+◌, ◌≤◌, ◌<◌, ℤ, pos, length, drop, get_or};
 ghost use Rattle.spec.specs.Memory.{memory};
 ghost use Rattle.spec.specs.Match.{id_in, base_in, no_walk, onto, enter, walk_on, one, match_on, undecided_on};
+ghost use Rattle.spec.specs.LookedOn.{read_from, looked_on};
 ghost use Rattle.memory.specs.Lent.{cells_of};
 ghost use Rattle.matching.specs.Answers.{walk_of, trail_of, longest, match_of, child};
 
@@ -15,6 +16,13 @@ use memory::Memory;
 pub struct Match {
     pub id: u32,
     pub len: usize,
+}
+
+/// What matching gives at a place: the longest token there, if there is one, and how many bytes were looked at for it.
+#[derive(Clone, Copy, Debug, PartialEq, Eq)]
+pub struct Matched {
+    pub longest: Option<Match>,
+    pub looked: usize,
 }
 
 /// What a walk found: the last token passed, the bytes it used and the base it ended with.
@@ -33,6 +41,13 @@ struct Trail {
     len: usize,
     used: usize,
     word: u64,
+}
+
+// A walk's trail, and how many bytes it read: the last may have led nowhere.
+#[derive(Clone, Copy)]
+struct Reach {
+    trail: Trail,
+    read: usize,
 }
 
 // Nothing found, nothing used.
@@ -95,12 +110,16 @@ fn child_of(table: &[u64], word: u64, byte: u8) -> Option<u64>
 }
 
 // The walk from a root word over the bytes after the first two.
-fn enter(table: &[u64], root: u64, rest: &[u8]) -> Trail
+fn enter(table: &[u64], root: u64, rest: &[u8]) -> Reach
     requires { length rest.now ≤ 253 }
-    ensures { trail_of result ≡ enter table.now root rest.now }
+    ensures trail { trail_of result.trail ≡ enter table.now root rest.now }
+    ensures read { result.read ≡ 2 + read_from table.now root rest.now }
 {
     if root == 0 {
-        return NOTHING;
+        return Reach {
+            trail: NOTHING,
+            read: 2,
+        };
     }
     let mut trail = Trail {
         best: root,
@@ -109,29 +128,43 @@ fn enter(table: &[u64], root: u64, rest: &[u8]) -> Trail
         word: root,
     };
     if id_in(root) != 0 && root >> 32 == 0 {
-        return trail;
+        return Reach { trail, read: 2 };
     }
     for &byte in rest {
         let Some(word) = child_of(table, trail.word, byte) else {
-            return trail;
+            return Reach {
+                trail,
+                read: trail.used + 1,
+            };
         };
         trail = trail.onto(word);
         if word >> 32 == 0 {
-            return trail;
+            return Reach {
+                trail,
+                read: trail.used,
+            };
         }
     }
-    trail
+    Reach {
+        trail,
+        read: trail.used,
+    }
 }
 
 // The walk over the bytes that are left, at most 255 of them.
 // Kept: lent two parts, and not the memory as walk_at is, with which an encoding takes some hundredths more instructions.
-fn trail_over(roots: &[u64], table: &[u64], rest: &[u8]) -> Trail
+fn reach_over(roots: &[u64], table: &[u64], rest: &[u8]) -> Reach
     requires { 65536 ≤ length roots.now }
-    ensures { (single : List ℤ) (offsets blob : List ℕ) →
-        trail_of result ≡ walk_on (memory single offsets blob roots.now table.now) rest.now }
+    ensures trail { (single : List ℤ) (offsets blob : List ℕ) →
+        trail_of result.trail ≡ walk_on (memory single offsets blob roots.now table.now) rest.now }
+    ensures read { (single : List ℤ) (offsets blob : List ℕ) →
+        result.read ≡ looked_on (memory single offsets blob roots.now table.now) rest.now }
 {
     let [first, second, more @ ..] = rest else {
-        return NOTHING;
+        return Reach {
+            trail: NOTHING,
+            read: rest.len(),
+        };
     };
     let root = roots[memory::root_index(*first, *second)];
     enter(table, root, &more[..more.len().min(253)])
@@ -142,7 +175,7 @@ pub fn walk_at(memory: Memory, rest: &[u8]) -> Walk
     requires { 65536 ≤ length memory.roots.now }
     ensures { result ≡ walk_of (walk_on (cells_of memory.entry) rest.now) }
 {
-    let trail = trail_over(memory.roots, memory.table, rest);
+    let trail = reach_over(memory.roots, memory.table, rest).trail;
     Walk {
         longest: trail.longest(),
         used: trail.used,
@@ -159,17 +192,23 @@ fn one_byte(single: &[i32], byte: u8) -> Option<Match>
     Some(Match { id, len: 1 })
 }
 
-/// The longest token that the bytes left begin with.
+/// The longest token that the bytes left begin with, and the bytes looked at, also where there is none.
 // Kept: walk_at and row_open read no `single`, so that one type of long memory would ask more; so too in `runs` and `stream`.
-pub fn match_at(memory: Memory, rest: &[u8]) -> Option<Match>
+pub fn match_at(memory: Memory, rest: &[u8]) -> Matched
     requires { (1 ≤ length rest.now) × (256 ≤ length memory.single.now) × (65536 ≤ length memory.roots.now) }
-    ensures { match_of result ≡ match_on (cells_of memory.entry) rest.now }
+    ensures longest { match_of result.longest ≡ match_on (cells_of memory.entry) rest.now }
+    ensures looked { result.looked ≡ looked_on (cells_of memory.entry) rest.now }
 {
-    let trail = trail_over(memory.roots, memory.table, rest);
-    let Some(found) = trail.longest() else {
-        return one_byte(memory.single, rest[0]);
+    let reach = reach_over(memory.roots, memory.table, rest);
+    let looked = reach.read;
+    let Some(found) = reach.trail.longest() else {
+        let longest = one_byte(memory.single, rest[0]);
+        return Matched { longest, looked };
     };
-    Some(found)
+    Matched {
+        longest: Some(found),
+        looked,
+    }
 }
 
 /// Whether the byte alone is undecided: its row of roots has a word that is not 0.

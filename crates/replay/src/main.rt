@@ -6,7 +6,7 @@
 //   D, U, Y  decode to bytes, to text, to lossy text: room for bytes, ids of three bytes
 // Before all these stands a byte: 0, or 1, 2, 3 for memory with one cell too few of `single`, offsets, roots. After a load a sum over
 // offsets, blob, roots and table is written, and at the end how many cases gave each number.
-// `cases.rs` makes the cases, and the answers by the Rust crate that this is a port of, where it has them.
+// `cases.rs` makes the cases, and the answers by the Rust crate that this is a port of, where it has them, and else by the documents.
 #![tactic(auto)]
 
 mod lent;
@@ -40,7 +40,7 @@ fn first_of(bytes: &[u8]) -> (u8, &[u8]) {
 fn encode_case(rt: &(impl AllocGlobal + Print), case: &[u8], memory: Memory) -> io::Result<u32> {
     let (room, src) = first_of(case);
     let mut ids = vec![in rt.alloc(); 0; usize::from(room)]?;
-    let mut report = [0; 3];
+    let mut report = [0; 4];
     let number = rwkv_tokenizer::rwkv_encode(memory, src, &mut ids, &mut report);
     write_report(rt, number, &report)?;
     ids.truncate(report[0] as usize);

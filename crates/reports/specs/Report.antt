@@ -14,10 +14,20 @@ answer_is a = record { number = a.number; count = a.count; place = a.place; valu
 abbrev pub report_of : spec.Answer → List ℕ
 report_of a = a.count ∷ a.place ∷ a.value ∷ []
 
+-- four cells: the same, and the bytes looked at
+abbrev pub looked_report : spec.Answer → ℕ → List ℕ
+looked_report a looked = a.count ∷ a.place ∷ a.value ∷ looked ∷ []
+
 -- A call gave the number r and its report, and left after where before was lent, as the output o says.
 pub record Reported (o : Output) (r : ℕ) (report before after : List ℕ) : Type 0 where
   pub number : r ≡ o.answer.number
   pub values : report ≡ report_of o.answer
+  pub cells : after ≡ over o.cells before
+
+-- An encoding gave the same, and in its report the sum of the bytes looked at.
+pub record EncodeReported (o : Output) (looked : ℕ) (r : ℕ) (report before after : List ℕ) : Type 0 where
+  pub number : r ≡ o.answer.number
+  pub values : report ≡ looked_report o.answer looked
   pub cells : after ≡ over o.cells before
 
 -- ---- a load

@@ -1,7 +1,7 @@
 // An answer on numbers, and the report that takes its values.
 ghost use Rattle.std.specs.Prelude.{◌≡◌};
 ghost use Rattle.spec.specs.Answer as spec;
-ghost use Rattle.reports.specs.Report.{answer_is, report_of};
+ghost use Rattle.reports.specs.Report.{answer_is, report_of, looked_report};
 
 /// A number of the documents, 0 if none, and its values.
 // Kept: the C interface answers a number, and its values in the cells of a report.
@@ -43,6 +43,14 @@ impl Answer {
         ensures { (result ≡ self.number) × (report.new ≡ report_of (answer_is self)) }
     {
         *report = [self.count, self.place, self.value];
+        self.number
+    }
+
+    /// The same, with the bytes looked at as a fourth value.
+    pub fn report_with(self, looked: u64, report: &mut [u64; 4]) -> u32
+        ensures { (result ≡ self.number) × (report.new ≡ looked_report (answer_is self) looked) }
+    {
+        *report = [self.count, self.place, self.value, looked];
         self.number
     }
 }

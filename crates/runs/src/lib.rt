@@ -8,6 +8,7 @@ ghost use Rattle.memory.specs.Lent.{cells_of};
 ghost use Rattle.runs.specs.Running.{RunsTo};
 
 use memory::Memory;
+use tally::{NO_IDS, Tally};
 
 // Whether later bytes may lengthen the token that the bytes left begin with.
 fn undecided_at(memory: Memory, rest: &[u8]) -> bool
@@ -28,34 +29,37 @@ fn undecided_at(memory: Memory, rest: &[u8]) -> bool
 }
 
 /// How a run over a stretch ends: past it, at a place where it waits, or at one where no token matches; and the ids written.
-// Kept: `take_piece` does another thing at each of the three ends; a kind beside `at` and `count` would be matched the same.
+// Kept: `take_piece` does another thing at each of the three ends; a kind beside `at` and `given` would be matched the same.
 #[derive(Clone, Copy, Debug, PartialEq, Eq)]
 pub enum Ran {
-    Through { at: usize, count: usize },
-    Waiting { at: usize, count: usize },
-    Stuck { at: usize, count: usize },
+    Through { at: usize, given: Tally },
+    Waiting { at: usize, given: Tally },
+    Stuck { at: usize, given: Tally },
 }
 
 /// The ids of the places before `stop`, written from the output's start. Bytes from `stop` on are only looked at.
 pub fn run(memory: Memory, src: &[u8], stop: usize, out: &mut [u32]) -> Ran
     requires { (stop ≤ length src.now) × (256 ≤ length memory.single.now) × (65536 ≤ length memory.roots.now)
-        × (length src.now ≤ length out.old) }
+        × (length src.now ≤ length out.old) × (length src.now ≤ 4294967295) }
     ensures { RunsTo (cells_of memory.entry) src.now stop out.old out.new result }
 {
-    let mut at = 0;
-    let mut count = 0;
-    // Kept: an answer says its place in the stretch, which over the rest as a slice would be counted beside it.
-    while at < stop {
-        let rest = &src[at..];
+    let behind = src.len() - stop;
+    let mut rest = src;
+    let mut given = NO_IDS;
+    while rest.len() > behind {
         if undecided_at(memory, rest) {
-            return Ran::Waiting { at, count };
+            let at = src.len() - rest.len();
+            return Ran::Waiting { at, given };
         }
-        let Some(found) = matching::match_at(memory, rest) else {
-            return Ran::Stuck { at, count };
+        let matched = matching::match_at(memory, rest);
+        let Some(found) = matched.longest else {
+            let at = src.len() - rest.len();
+            return Ran::Stuck { at, given };
         };
-        out[count] = found.id;
-        count += 1;
-        at += found.len;
+        out[given.count] = found.id;
+        given = given.with_one(matched.looked);
+        rest = &rest[found.len..];
     }
-    Ran::Through { at, count }
+    let at = src.len() - rest.len();
+    Ran::Through { at, given }
 }

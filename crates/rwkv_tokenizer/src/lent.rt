@@ -8,13 +8,13 @@ ghost use Rattle.reports.specs.Leaves.{Leaves};
 use memory::Memory;
 use stream_record::Stream;
 
-/// The next piece: the ids that it decides, written from out's start. The report: count, offset, byte.
+/// The next piece: the ids that it decides, written from out's start. The report: count, offset, byte, bytes looked at for the ids.
 pub fn rwkv_add(
     memory: Memory,
     stream: &mut Stream,
     piece: &[u8],
     out: &mut [u32],
-    report: &mut [u64; 3],
+    report: &mut [u64; 4],
 ) -> u32
     ensures { Leaves (spec.call_on
         (cells_of memory.entry)
@@ -25,7 +25,7 @@ pub fn rwkv_add(
 }
 
 /// The end of the stream: the ids of the held bytes.
-pub fn rwkv_end(memory: Memory, stream: &mut Stream, out: &mut [u32], report: &mut [u64; 3]) -> u32
+pub fn rwkv_end(memory: Memory, stream: &mut Stream, out: &mut [u32], report: &mut [u64; 4]) -> u32
     ensures { Leaves (spec.call_on
         (cells_of memory.entry)
         (record_of stream.old) (spec.end out.old))

@@ -8,7 +8,7 @@ ghost use Rattle.reports.specs.Leaves.{Leaves};
 use memory::Memory;
 use stream_record::Stream;
 
-// The next piece: the ids that it decides, written from out's start. The report: count, offset, byte.
+// The next piece: the ids that it decides, written from out's start. The report: count, offset, byte, bytes looked at for the ids.
 #[unsafe(no_mangle)]
 pub extern "C" fn rwkv_add(
     single: &[i32],
@@ -19,7 +19,7 @@ pub extern "C" fn rwkv_add(
     stream: &mut Stream,
     piece: &[u8],
     out: &mut [u32],
-    report: &mut [u64; 3],
+    report: &mut [u64; 4],
 ) -> u32
     ensures { Leaves (spec.call_on
         (memory single.now offsets.now blob.now roots.now table.now)
@@ -40,7 +40,7 @@ pub extern "C" fn rwkv_end(
     table: &[u64],
     stream: &mut Stream,
     out: &mut [u32],
-    report: &mut [u64; 3],
+    report: &mut [u64; 4],
 ) -> u32
     ensures { Leaves (spec.call_on
         (memory single.now offsets.now blob.now roots.now table.now)

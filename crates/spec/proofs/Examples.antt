@@ -1,12 +1,12 @@
 -- The starred examples of document 01, "Examples on V and single lines": one table of theorems, a row each, by computation. Rows on V are
--- said of the entries' own definitions, number 1 and the order of refusals included. Document 01's texts are of edition 1. The last rows
--- are not starred: the lengths of a token, and document 02's first bad byte and editions. An edit of a definition that changes what it
--- says here is refused here. Assumes nothing.
+-- said of the entries' own definitions, number 1 and the order of refusals included. Document 01's texts are of edition 1. Not starred are
+-- the bytes looked at, of document 02, and the last rows: the lengths of a token, and document 02's first bad byte and editions. An edit of
+-- a definition that changes what it says here is refused here. Assumes nothing.
 use mathlib.Core.Path.{◌≡◌, refl, ap, ◌∙◌}
 use mathlib.Core.Bool.{Bool, true, false, ◌||◌}
 use Rattle.std.specs.Prelude.{None, Some}
 use mathlib.Core.List.{List, [], ◌∷◌, ◌++◌, append-nil}
-use Prim.Native.Nat.{ℕ, ◌-◌}
+use Prim.Native.Nat.{ℕ, ◌-◌, ◌^◌}
 use native.Mathlib.Nat.{sub_self}
 use native.Mathlib.Omega.{arith}
 use lib.Dec.{eqb}
@@ -20,9 +20,11 @@ use Rattle.spec.specs.Literal.{escape, escape2, escapes_of, literal}
 use Rattle.spec.specs.Token.{Token, seen}
 use Rattle.spec.specs.Trie.{node_count}
 use Rattle.spec.specs.Layout.{table_words}
+use Rattle.spec.specs.Looked.{looked, looked_at, looked_sum}
+use Rattle.spec.specs.LookedOn.{looked_on, sum_on}
 use Rattle.spec.specs.Scan.{done, failed, scan_at, scan, waiting, run_at, run}
 use Rattle.spec.specs.Memory.{Memory, too_short, padded, memory_of, single_list, offset_list, blob_bytes, root_list, table_list}
-use Rattle.spec.specs.Encode.{encoding, encode_answer, encode_on}
+use Rattle.spec.specs.Encode.{encoding, encode_answer, usable, Output, encode_on, encode_looked}
 use Rattle.spec.specs.Decode.{decoding, decode_output, decode_on}
 use Rattle.spec.specs.Load.{table_room, id_rule, length_rule, read_token, read_fields, read_line, vocabulary, records_in, reading, admit}
 use Rattle.spec.specs.Load.{last_id, take_one, nowhere, offset, accepted, missing, finish, take_all, load, start_of, counts_of}
@@ -112,8 +114,8 @@ v_long = refl
 
 encode_v : (n : ℕ) (s : List ℕ) → encode_on v_memory n s
     ≡ record {
-      answer = encode_answer (length (encoding v_memory n s).ids) (encoding v_memory n s).end;
-      cells = (encoding v_memory n s).ids;
+      answer = encode_answer (length (encoding v_memory (usable n) s).ids) (encoding v_memory (usable n) s).end;
+      cells = (encoding v_memory (usable n) s).ids;
     }
 unfolding encode_on
 encode_v n s = rw (v_long, encode_on)
@@ -179,45 +181,144 @@ abc-scan : scan vv (0x61 ∷ 0x62 ∷ 0x63 ∷ []) ≡ record { ids = 3 ∷ []; 
 unfolding scan_at
 abc-scan = refl
 
+-- ── The bytes looked at ──────────────────────────────────────────────
+
+-- Document 02, W-202, on tokens and on V's memory. Each row says what one part of the sentence comes to.
+
+-- x begins no token, and xa does not: one of the byte left, two of two
+looked-x : looked vv (0x78 ∷ []) ≡ 1
+unfolding looked
+looked-x = refl
+
+looked-xa : looked vv (0x78 ∷ 0x61 ∷ []) ≡ 2
+unfolding looked
+looked-xa = refl
+
+-- ab begins abcd: the byte after it is looked at, if there is one
+looked-ab : looked vv (0x61 ∷ 0x62 ∷ []) ≡ 2
+unfolding looked
+looked-ab = refl
+
+looked-abx : looked vv (0x61 ∷ 0x62 ∷ 0x78 ∷ []) ≡ 3
+unfolding looked
+looked-abx = refl
+
+-- abc begins abcd too, so that of abcb all four are looked at for the token ab
+looked-abcb : looked vv (0x61 ∷ 0x62 ∷ 0x63 ∷ 0x62 ∷ []) ≡ 4
+unfolding looked
+looked-abcb = refl
+
+-- no token goes on after bc, nor after abcd: no byte more
+looked-bcb : looked vv (0x62 ∷ 0x63 ∷ 0x62 ∷ []) ≡ 2
+unfolding looked
+looked-bcb = refl
+
+looked-abcda : looked vv (0x61 ∷ 0x62 ∷ 0x63 ∷ 0x64 ∷ 0x61 ∷ []) ≡ 4
+unfolding looked
+looked-abcda = refl
+
+-- the same bytes are read by the walk
+read_x : looked_on v_memory (0x78 ∷ []) ≡ 1
+unfolding looked_on
+read_x = refl
+
+read_xa : looked_on v_memory (0x78 ∷ 0x61 ∷ []) ≡ 2
+unfolding looked_on root_list
+read_xa = refl
+
+read_abx : looked_on v_memory (0x61 ∷ 0x62 ∷ 0x78 ∷ []) ≡ 3
+unfolding looked_on root_list table_list
+read_abx = refl
+
+read_bcb : looked_on v_memory (0x62 ∷ 0x63 ∷ 0x62 ∷ []) ≡ 2
+unfolding looked_on root_list table_list
+read_bcb = refl
+
+read_abcda : looked_on v_memory (0x61 ∷ 0x62 ∷ 0x63 ∷ 0x64 ∷ 0x61 ∷ []) ≡ 4
+unfolding looked_on root_list table_list
+read_abcda = refl
+
+looked_v : (n : ℕ) (s : List ℕ) → encode_looked v_memory n s ≡ sum_on v_memory (length (encoding v_memory (usable n) s).ids) 0 s
+unfolding encode_looked
+looked_v n s = ap (λ (o : Output). sum_on v_memory (length o.cells) 0 s) (encode_v n s)
+
+-- aab: two for a, two for ab. abc: three for ab, and none for the place that fails; so if ab has no room, none at all.
+aab-looked : encode_looked v_memory 3 (0x61 ∷ 0x61 ∷ 0x62 ∷ []) ≡ 4
+unfolding encoding sum_on single_list root_list table_list
+aab-looked = looked_v _ _ ∙ refl
+
+abc-looked : encode_looked v_memory 3 (0x61 ∷ 0x62 ∷ 0x63 ∷ []) ≡ 3
+unfolding encoding sum_on single_list root_list table_list
+abc-looked = looked_v _ _ ∙ refl
+
+no_room-looked : encode_looked v_memory 0 (0x61 ∷ 0x62 ∷ 0x63 ∷ []) ≡ 0
+unfolding encoding sum_on single_list root_list table_list
+no_room-looked = looked_v _ _ ∙ refl
+
+-- "It never uses output cells past the first 2^56 − 1."
+most-cells : usable (2 ^ 56) ≡ 2 ^ 56 - 1
+most-cells = refl
+
+-- The figures of pieces need not add up to that of the whole: of aa, over a alone, 2 and 1; of a by itself 1, and no byte is held.
+abbrev only_a : List Token
+only_a = record { id = 1; bytes = 0x61 ∷ [] } ∷ []
+
+whole-aa : looked_sum only_a 2 (0x61 ∷ 0x61 ∷ []) ≡ 3
+unfolding looked_at
+whole-aa = refl
+
+piece-a : looked_sum only_a 1 (0x61 ∷ []) ≡ 1
+unfolding looked_at
+piece-a = refl
+
+a-waits_not : run only_a (0x61 ∷ []) ≡ record { ids = 1 ∷ []; stop = waiting 1 [] }
+unfolding run_at
+a-waits_not = refl
+
 -- ── The running encoder ──────────────────────────────────────────────
 
--- Each call begins with the record that the one before it left.
+-- Each call begins with the record that the one before it left. Document 02, W-202: the bytes looked at for its ids.
 
 -- Pieces ab, b, c: none, then 3, then 5; end none.
 ab_none :
     call_on v_memory fresh (add (0x61 ∷ 0x62 ∷ []) (replicate 2 0))
-    ≡ record { answer = whole 0; stream = holding open_phase 2 (0x61 ∷ 0x62 ∷ []); ids = [] }
+    ≡ record { answer = whole 0; stream = holding open_phase 2 (0x61 ∷ 0x62 ∷ []); ids = []; looked = 0 }
 unfolding call_refusal goes_through single_list root_list table_list
 ab_none = call_v _ _ ∙ refl
 
 b_three :
     call_on v_memory (holding open_phase 2 (0x61 ∷ 0x62 ∷ [])) (add (0x62 ∷ []) (replicate 3 0))
-    ≡ record { answer = whole 1; stream = holding open_phase 3 (0x62 ∷ []); ids = 3 ∷ [] }
+    ≡ record { answer = whole 1; stream = holding open_phase 3 (0x62 ∷ []); ids = 3 ∷ []; looked = 3 }
 unfolding call_refusal goes_through single_list root_list table_list
 b_three = call_v _ _ ∙ refl
 
 c_five :
     call_on v_memory (holding open_phase 3 (0x62 ∷ [])) (add (0x63 ∷ []) (replicate 2 0))
-    ≡ record { answer = whole 1; stream = holding open_phase 4 []; ids = 5 ∷ [] }
+    ≡ record { answer = whole 1; stream = holding open_phase 4 []; ids = 5 ∷ []; looked = 2 }
 unfolding call_refusal goes_through single_list root_list table_list
 c_five = call_v _ _ ∙ refl
 
 end_none :
     call_on v_memory (holding open_phase 4 []) (end [])
-    ≡ record { answer = whole 0; stream = holding ended_phase 4 []; ids = [] }
+    ≡ record { answer = whole 0; stream = holding ended_phase 4 []; ids = []; looked = 0 }
 unfolding call_refusal goes_through single_list root_list table_list
 end_none = call_v _ _ ∙ refl
 
 -- Piece abc, end: none, then 3 and 22 at 2.
 abc-none :
     call_on v_memory fresh (add (0x61 ∷ 0x62 ∷ 0x63 ∷ []) (replicate 3 0))
-    ≡ record { answer = whole 0; stream = holding open_phase 3 (0x61 ∷ 0x62 ∷ 0x63 ∷ []); ids = [] }
+    ≡ record { answer = whole 0; stream = holding open_phase 3 (0x61 ∷ 0x62 ∷ 0x63 ∷ []); ids = []; looked = 0 }
 unfolding call_refusal goes_through single_list root_list table_list
 abc-none = call_v _ _ ∙ refl
 
 abc-ends :
     call_on v_memory (holding open_phase 3 (0x61 ∷ 0x62 ∷ 0x63 ∷ [])) (end (replicate 3 0))
-    ≡ record { answer = record { number = 22; count = 1; place = 2; value = 0x63 }; stream = stopped_at 3 2 0x63; ids = 3 ∷ [] }
+    ≡ record {
+      answer = record { number = 22; count = 1; place = 2; value = 0x63 };
+      stream = stopped_at 3 2 0x63;
+      ids = 3 ∷ [];
+      looked = 3;
+    }
 unfolding call_refusal goes_through single_list root_list table_list
 abc-ends = call_v _ _ ∙ refl
 

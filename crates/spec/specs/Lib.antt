@@ -8,11 +8,13 @@ pub mod Line
 pub mod Literal
 pub mod Token
 pub mod Scan
+pub mod Looked
 pub mod Trie
 pub mod Layout
 pub mod Valid
 pub mod Memory
 pub mod Match
+pub mod LookedOn
 pub mod Answer
 pub mod Encode
 pub mod Decode

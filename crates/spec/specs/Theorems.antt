@@ -1,6 +1,6 @@
 -- What is proved of the definitions, as statements: each theorem is a named type, and a proof of it has exactly this type.
 -- The proofs stand in the crates `running`, `laws`, `loading` and `demands`. Assumes nothing.
-use Rattle.std.specs.Prelude.{◌≡◌, ◌⊎◌, ◌↔◌, Bool, true, false, List, ◌∷◌, ◌++◌, ℕ, ◌+◌, ◌^◌, ◌≤◌, ◌<◌, length, take, drop, get_or}
+use Rattle.std.specs.Prelude.{◌≡◌, ◌⊎◌, ◌↔◌, Bool, true, false, List, ◌∷◌, ◌++◌, ℕ, ◌+◌, ◌*◌, ◌^◌, ◌≤◌, ◌<◌, length, take, drop, get_or}
 use Rattle.std.specs.Prelude.{Option, None, Some}
 use Rattle.spec.specs.Lists.{all, Bytes}
 use Rattle.spec.specs.Utf8.{step_of, is_char, well_formed}
@@ -11,7 +11,9 @@ use Rattle.spec.specs.Layout.{table_words}
 use Rattle.spec.specs.Valid.{Valid}
 use Rattle.spec.specs.Memory.{Memory, too_short, blob_bytes, Loaded}
 use Rattle.spec.specs.Match.{Match, nothing, found, match_on, undecided_on}
-use Rattle.spec.specs.Encode.{EncodeEnd, encoding}
+use Rattle.spec.specs.Looked.{looked, looked_sum}
+use Rattle.spec.specs.LookedOn.{looked_on, sum_on}
+use Rattle.spec.specs.Encode.{EncodeEnd, encoding, encode_on, encode_looked}
 use Rattle.spec.specs.Encode as encode
 use Rattle.spec.specs.Decode.{lookup, decoding}
 use Rattle.spec.specs.Decode as decode
@@ -35,6 +37,18 @@ Matching = (m : Memory) (ts : List Token) → Loaded m ts → (s : List ℕ) →
 abbrev pub Deciding : Type 0
 Deciding = (m : Memory) (ts : List Token) → Loaded m ts → (s : List ℕ) → Bytes s → undecided_on m s ≡ undecided ts s
 
+-- On loaded memory the bytes that a match reads are the bytes looked at, for every byte string.
+abbrev pub Looks : Type 0
+Looks = (m : Memory) (ts : List Token) → Loaded m ts → (s : List ℕ) → Bytes s → looked_on m s ≡ looked ts s
+
+-- Document 02, W-202: "On loaded memory this is at most 255." It is so on any, and no more than the bytes there are.
+abbrev pub LooksShort : Type 0
+LooksShort = (m : Memory) (s : List ℕ) → (looked_on m s ≤ 255) × (looked_on m s ≤ length s)
+
+-- On loaded memory what was read for the first n ids adds up to the bytes looked at for them.
+abbrev pub LooksSum : Type 0
+LooksSum = (m : Memory) (ts : List Token) → Loaded m ts → (s : List ℕ) → Bytes s → (n : ℕ) → sum_on m n 0 s ≡ looked_sum ts n s
+
 -- ── Encoding ─────────────────────────────────────────────────────────
 
 abbrev pub encode_end : End → EncodeEnd
@@ -50,6 +64,10 @@ EncodingIsScan = (m : Memory) (ts : List Token) → Loaded m ts → (s : List �
 abbrev pub EncodingIsCut : Type 0
 EncodingIsCut = (m : Memory) (ts : List Token) → Loaded m ts → (s : List ℕ) → Bytes s → (n : ℕ) → n < length (scan ts s).ids
     → encoding m n s ≡ record { ids = take n (scan ts s).ids; end = encode.full (length (joined ts (take n (scan ts s).ids))) }
+
+-- Document 02, W-202: "on loaded memory an accepted input's total is at most 255 times its ids". So is every input's, on any memory.
+abbrev pub TotalShort : Type 0
+TotalShort = (m : Memory) (n : ℕ) (s : List ℕ) → encode_looked m n s ≤ 255 * length (encode_on m n s).cells
 
 -- Every id of a scan has a token.
 abbrev pub IdsPresent : Type 0

@@ -12,14 +12,17 @@ use Rattle.spec.specs.Lists.{over}
 use Rattle.spec.specs.Scan.{End, done, failed, Scan, scanned}
 use Rattle.spec.specs.Memory.{Memory, too_short}
 use Rattle.spec.specs.Match.{Match, nothing, found, match_on}
-use Rattle.spec.specs.Encode.{EncodeEnd, complete, unmatched, Encoding, encoded, encode_at, encoding, encode_answer, Output, encode_on}
+use Rattle.spec.specs.LookedOn.{sum_on}
+use Rattle.spec.specs.Encode.{EncodeEnd, complete, unmatched, Encoding, encoded, encode_at, encoding, encode_answer, Output}
+use Rattle.spec.specs.Encode.{usable, encode_on, encode_looked}
+use Rattle.tally.specs.declared.Tally.{Tally}
 use Rattle.spec.specs.Stream as spec
 use Rattle.spec.specs.Stream.{StreamRecord, add, end, holding, stopped_at, closed, scan_on, goes_through}
 use Rattle.laws.specs.StreamLaws.{scan_on-none, scan_on-some}
 use Rattle.spec.specs.Stream.{call_on}
 use Rattle.stream_record.specs.declared.Called.{Called}
 use Rattle.stream_record.specs.declared.StreamError.TheVariants.{Stopped}
-use Rattle.stream_record.specs.Answers.{record_of, answer_of, Answered}
+use Rattle.stream_record.specs.Answers.{record_of, answer_of, looked_of, Answered}
 use Rattle.stream.specs.Handing.{refusal}
 use Rattle.stream.proofs.Calling.{Ready, ready, end_ready, call-through}
 
@@ -83,18 +86,22 @@ fails-within m pos zero (a ∷ s) p b e = go (match_on m (a ∷ s)) refl (λ k. 
 
 -- ── What the encoding of the held bytes says of their scan ───────────
 
-module _ (m : Memory) (s : List ℕ) (n : ℕ) (long : too_short m ≡ false) (room : length s ≤ n) where
+module _ (m : Memory) (s : List ℕ) (n : ℕ) (long : too_short m ≡ false) (room : length s ≤ usable n) where
   abbrev ids : List ℕ
   ids = (scan_on m 0 0 s).ids
 
   encodes : encode_on m n s ≡ record { answer = encode_answer (length ids) (end_of (scan_on m 0 0 s).end); cells = ids }
   unfolding encode_on encoding
   encodes =
-      rw (long, encode_on)
-      (ap (λ (e : Encoding). record { answer = encode_answer (length e.ids) e.end; cells = e.ids }) (roomy m n 0 0 s (omega arith)))
+      let e = roomy m (usable n) 0 0 s (omega arith) in
+      rw (long, encode_on) (ap (λ (e : Encoding). record { answer = encode_answer (length e.ids) e.end; cells = e.ids }) e)
 
   its-cells : (encode_on m n s).cells ≡ ids
   its-cells = ap (λ (o : Output). o.cells) encodes
+
+  its-sum : encode_looked m n s ≡ sum_on m (length ids) 0 s
+  unfolding encode_looked
+  its-sum = ap (λ (l : List ℕ). sum_on m (length l) 0 s) its-cells
 
   its-answer : (x : End) → (scan_on m 0 0 s).end ≡ x → (encode_on m n s).answer ≡ encode_answer (length ids) (end_of x)
   its-answer x w = ap (λ (o : Output). o.answer) encodes ∙ ap (λ (y : End). encode_answer (length ids) (end_of y)) w
@@ -140,8 +147,8 @@ module _ (m : Memory) (r : StreamRecord) (lent : List ℕ) (goes : None ≡ refu
   abbrev encoded_as : Answer → Type 0
   encoded_as a = a ≡ (encode_on m (length lent) held).answer
 
-  room : length held ≤ length lent
-  room = omega (arith, g.many, g.passes.room)
+  room : length held ≤ usable (length lent)
+  room = omega (arith, g.many, g.passes.few, g.passes.room)
 
   -- where the held bytes stop
   pub fails_at : (count offset byte : ℕ) → encoded_as (record { number = 22; count = count; place = offset; value = byte })
@@ -153,37 +160,47 @@ module _ (m : Memory) (r : StreamRecord) (lent : List ℕ) (goes : None ≡ refu
   pub never : (a : Answer) → (a.number ≡ 0 → ⊥) → (a.number ≡ 22 → ⊥) → encoded_as a → ⊥
   never = says_other m held (length lent) g.long room
 
-  module _ (out : List ℕ) (d : Called) (written : out ≡ over (encode_on m (length lent) held).cells lent) where
+  module _ (out : List ℕ) (d : Called) (written : out ≡ over (encode_on m (length lent) held).cells lent) (given : Tally)
+      (sum : given.looked ≡ encode_looked m (length lent) held) where
     abbrev handed : List ℕ
     handed = (scan_on m 0 0 held).ids
 
-    comes : (x : End) → (scan_on m 0 0 held).end ≡ x → call_on m r (end lent) ≡ closed r.total handed (later_end (r.total - r.held_len) x)
+    abbrev looked : ℕ
+    looked = sum_on m (length handed) 0 held
+
+    comes : (x : End) → (scan_on m 0 0 held).end ≡ x
+        → call_on m r (end lent) ≡ closed r.total handed looked (later_end (r.total - r.held_len) x)
     unfolding goes_through
     comes x w =
         call-through m r (end lent) (goes ∙ end_ready m r lent small)
-        ∙ ap (λ (v : Scan). closed r.total v.ids v.end)
+        ∙ ap (λ (v : Scan). closed r.total v.ids (sum_on m (length v.ids) 0 held) v.end)
         (ap (λ (p : ℕ). scan_on m p 0 held) (sym (add-zero (r.total - r.held_len))) ∙ shifts m (r.total - r.held_len) 0 0 held)
-        ∙ ap (λ (y : End). closed r.total handed (later_end (r.total - r.held_len) y)) w
+        ∙ ap (λ (y : End). closed r.total handed looked (later_end (r.total - r.held_len) y)) w
 
     cells : out ≡ over handed lent
     cells = written ∙ ap (λ (l : List ℕ). over l lent) (its-cells m held (length lent) g.long room)
 
-    pub gives-closed : (count : ℕ) → encoded_as (whole count) → (d.answer ≡ Ok count) × (record_of d.stream ≡ holding 2 r.total [])
-        → Answered (call_on m r (end lent)) d lent out
-    gives-closed count e h =
-        let w = says-whole m held (length lent) g.long room count e in
-        subst (λ (x : spec.Called). Answered x d lent out) (sym (comes done w.0))
-        (record { answer = ap answer_of h.0 ∙ ap whole w.1; stream = h.1; cells = cells })
+    looks : given.looked ≡ looked
+    looks = sum ∙ its-sum m held (length lent) g.long room
 
-    pub gives-stopped : (count offset byte place : ℕ) → encoded_as (record { number = 22; count = count; place = offset; value = byte })
-        → place ≡ r.total - r.held_len + offset
-        → (d.answer ≡ Err (Stopped count place byte)) × (record_of d.stream ≡ stopped_at r.total place byte)
+    pub gives-closed : encoded_as (whole given.count) → (d.answer ≡ Ok given) × (record_of d.stream ≡ holding 2 r.total [])
         → Answered (call_on m r (end lent)) d lent out
-    gives-stopped count offset byte place e p h =
-        let w = says_none m held (length lent) g.long room count offset byte e in
+    gives-closed e h =
+        let w = says-whole m held (length lent) g.long room given.count e in
+        subst (λ (x : spec.Called). Answered x d lent out) (sym (comes done w.0))
+        (record { answer = ap answer_of h.0 ∙ ap whole w.1; stream = h.1; looked = ap looked_of h.0 ∙ looks; cells = cells })
+
+    pub gives-stopped : (offset byte place : ℕ)
+        → encoded_as (record { number = 22; count = given.count; place = offset; value = byte })
+        → place ≡ r.total - r.held_len + offset
+        → (d.answer ≡ Err (Stopped given place byte)) × (record_of d.stream ≡ stopped_at r.total place byte)
+        → Answered (call_on m r (end lent)) d lent out
+    gives-stopped offset byte place e p h =
+        let w = says_none m held (length lent) g.long room given.count offset byte e in
         subst (λ (x : spec.Called). Answered x d lent out) (sym (comes (failed offset byte) w.0))
         (record {
           answer = ap answer_of h.0 ∙ ap₂ (λ (k q : ℕ). record { number = 22; count = k; place = q; value = byte }) w.1 p;
           stream = h.1 ∙ ap (λ (q : ℕ). stopped_at r.total q byte) p;
+          looked = ap looked_of h.0 ∙ looks;
           cells = cells;
         })

@@ -2,20 +2,21 @@
 // Each public contract is an equation with a definition of `spec`, whatever memory and record hold.
 #![tactic(auto)]
 
-ghost use Rattle.std.specs.Prelude.{◌≡◌, List, [], ◌++◌, ℕ, ◌+◌, ◌-◌, ◌≤◌, length, take};
+ghost use Rattle.std.specs.Prelude.{◌≡◌, List, [], ◌++◌, ℕ, ◌+◌, ◌-◌, ◌*◌, ◌≤◌, length, take};
 ghost use Rattle.spec.specs.Stream as spec;
 ghost use Rattle.memory.specs.Lent.{cells_of};
-ghost use Rattle.stream_record.specs.Answers.{record_of, refusal_of, Answered};
+ghost use Rattle.stream_record.specs.Answers.{record_of, refusal_of, refused_looked, Answered};
 ghost use Rattle.stream.specs.Handing.{reached, refusal, Hands};
 
 use encoding::EncodeError;
 use memory::Memory;
 use runs::Ran;
 use stream_record::{Called, Stream, StreamError, opened, stopped};
+use tally::Tally;
 
 // A call that ends the stream.
-fn closed(total: u32, count: usize) -> Called
-    ensures { (result.answer ≡ Ok count) × (record_of result.stream ≡ spec.holding 2 total []) }
+fn closed(total: u32, given: Tally) -> Called
+    ensures { (result.answer ≡ Ok given) × (record_of result.stream ≡ spec.holding 2 total []) }
 {
     let stream = Stream {
         total,
@@ -24,7 +25,7 @@ fn closed(total: u32, count: usize) -> Called
     };
     Called {
         stream,
-        answer: Ok(count),
+        answer: Ok(given),
     }
 }
 
@@ -40,18 +41,22 @@ fn join<'a>(held: &[u8], piece: &[u8], window: &'a mut [u8; 508]) -> &'a [u8]
     &window[..n + more]
 }
 
-// The rest of an add, over the bytes of its piece that are left, after `before` ids; the first of them stands at the offset `start`.
-fn take_rest(memory: Memory, start: u32, rest: &[u8], out: &mut [u32], before: usize) -> Called
+// The rest of an add, over the bytes of its piece that are left, after the ids `before`; the first of these bytes stands at `start`.
+fn take_rest(memory: Memory, start: u32, rest: &[u8], out: &mut [u32], before: Tally) -> Called
     requires { (256 ≤ length memory.single.now) × (65536 ≤ length memory.roots.now)
-        × (start + length rest.now ≤ 4294967295) × (length rest.now ≤ length out.old) × (before + length rest.now ≤ 18446744073709551615) }
-    ensures { (ids : List ℕ) → length ids ≡ before
-        → Hands (start + length rest.now) ids (spec.run_on (cells_of memory.entry) start 0 rest.now) out.old out.new result }
+        × (start + length rest.now ≤ 4294967295) × (length rest.now ≤ length out.old)
+        × (before.count ≤ 508) × (before.looked ≤ 255 * before.count) }
+    ensures { (ids : List ℕ) → length ids ≡ before.count
+        → Hands (cells_of memory.entry) (start + length rest.now) ids before.looked rest.now
+        (spec.run_on (cells_of memory.entry) start 0 rest.now) out.old out.new result }
 {
     let all = start + rest.len() as u32;
     match runs::run(memory, rest, rest.len(), out) {
-        Ran::Through { at, count } => opened(all, &rest[at..], before + count),
-        Ran::Waiting { at, count } => opened(all, &rest[at..], before + count),
-        Ran::Stuck { at, count } => stopped(all, start + at as u32, rest[at], before + count),
+        Ran::Through { at, given } => opened(all, &rest[at..], before.with(given)),
+        Ran::Waiting { at, given } => opened(all, &rest[at..], before.with(given)),
+        Ran::Stuck { at, given } => {
+            stopped(all, start + at as u32, rest[at], before.with(given))
+        }
     }
 }
 
@@ -60,7 +65,7 @@ fn take_piece(memory: Memory, total: u32, held: &[u8], piece: &[u8], out: &mut [
     requires { (length held.now ≤ 254) × (length held.now ≤ total)
         × (256 ≤ length memory.single.now) × (65536 ≤ length memory.roots.now)
         × (total + length piece.now ≤ 4294967295) × (length held.now + length piece.now ≤ length out.old) }
-    ensures { Hands (total + length piece.now) []
+    ensures { Hands (cells_of memory.entry) (total + length piece.now) [] 0 (held.now ++ piece.now)
         (spec.run_on (cells_of memory.entry) (total - length held.now) 0 (held.now ++ piece.now)) out.old out.new result }
 {
     let n = held.len();
@@ -69,25 +74,26 @@ fn take_piece(memory: Memory, total: u32, held: &[u8], piece: &[u8], out: &mut [
     let mut window = [0; 508];
     let joined = join(held, piece, &mut window);
     match runs::run(memory, joined, n, out) {
-        Ran::Through { at, count } => {
+        Ran::Through { at, given } => {
             let over = at - n;
             take_rest(
                 memory,
                 total + over as u32,
                 &piece[over..],
-                &mut out[count..],
-                count,
+                &mut out[given.count..],
+                given,
             )
         }
-        Ran::Waiting { at, count } => opened(all, &joined[at..], count),
-        Ran::Stuck { at, count } => stopped(all, start + at as u32, joined[at], count),
+        Ran::Waiting { at, given } => opened(all, &joined[at..], given),
+        Ran::Stuck { at, given } => stopped(all, start + at as u32, joined[at], given),
     }
 }
 
 // Whether a call goes through with a piece and an output of these lengths: number 1, then the refusals of the record.
 fn ready(memory: Memory, stream: Stream, piece: usize, out: usize) -> Result<(), StreamError>
-    ensures { (bytes cells : List ℕ) → length bytes ≡ piece → length cells ≡ out
+    ensures refusal { (bytes cells : List ℕ) → length bytes ≡ piece → length cells ≡ out
         → refusal_of result ≡ refusal (cells_of memory.entry) (record_of stream) (spec.add bytes cells) }
+    ensures looked { refused_looked result ≡ 0 }
 {
     if memory.too_short() {
         return Err(StreamError::ShortMemory);
@@ -123,14 +129,14 @@ pub fn end(memory: Memory, stream: Stream, out: &mut [u32]) -> Called
     let start = total - u32::from(stream.held_len);
     let held = &stream.held[..usize::from(stream.held_len)];
     match encoding::encode_sequential_bytes(memory, held, out) {
-        Ok(count) => closed(total, count),
+        Ok(given) => closed(total, given),
         Err(
             EncodeError::NoToken {
-                count,
+                given,
                 offset,
                 byte,
             },
-        ) => stopped(total, start + offset as u32, byte, count),
+        ) => stopped(total, start + offset as u32, byte, given),
         // Neither of these comes: the memory is long enough, and the output has a cell for every byte.
         Err(EncodeError::ShortMemory) => unreachable!(),
         Err(EncodeError::Full { .. }) => unreachable!(),

@@ -2,6 +2,7 @@
 -- number and values. Assumes nothing.
 use Rattle.std.specs.Prelude.{◌≡◌, List, ℕ}
 use Rattle.std.specs.Prelude.{Option, None, Some, Result, Ok, Err}
+use Rattle.tally.specs.declared.Tally.{Tally}
 use Rattle.spec.specs.Lists.{over}
 use Rattle.spec.specs.Answer as spec
 use Rattle.spec.specs.Stream as spec-stream
@@ -22,22 +23,37 @@ record_of s = record {
 }
 
 -- how many ids were handed out, or 1, 26, 25, 24 and 22, with what each carries
-abbrev pub answer_of : Result ℕ StreamError → spec.Answer
-answer_of (Ok count) = spec.whole count
+abbrev pub answer_of : Result Tally StreamError → spec.Answer
+answer_of (Ok given) = spec.whole given.count
 answer_of (Err ShortMemory) = spec.bare 1
 answer_of (Err Ended) = spec.bare 26
 answer_of (Err TooMany) = spec.bare 25
 answer_of (Err OutputShort) = spec.bare 24
-answer_of (Err (Stopped count offset byte)) = record { number = 22; count = count; place = offset; value = byte }
+answer_of (Err (Stopped given offset byte)) = record { number = 22; count = given.count; place = offset; value = byte }
+
+-- the bytes looked at for the ids that were handed out
+abbrev pub looked_of : Result Tally StreamError → ℕ
+looked_of (Ok given) = given.looked
+looked_of (Err ShortMemory) = 0
+looked_of (Err Ended) = 0
+looked_of (Err TooMany) = 0
+looked_of (Err OutputShort) = 0
+looked_of (Err (Stopped given offset byte)) = given.looked
 
 -- the answer of a call that is refused, or none
 abbrev pub refusal_of : Result (Unit {0}) StreamError → Option spec.Answer
 refusal_of (Ok u) = None
 refusal_of (Err e) = Some (answer_of (Err e))
 
--- A call gave r and left after where before was lent: its answer, its record, and its ids "from the output's start, with its count; other
--- cells are untouched".
+-- the bytes looked at of a call that is refused
+abbrev pub refused_looked : Result (Unit {0}) StreamError → ℕ
+refused_looked (Ok u) = 0
+refused_looked (Err e) = looked_of (Err e)
+
+-- A call gave r and left after where before was lent: its answer, its record, the bytes looked at, and its ids "from the output's start,
+-- with its count; other cells are untouched".
 pub record Answered (c : spec-stream.Called) (r : Called) (before after : List ℕ) : Type 0 where
   pub answer : answer_of r.answer ≡ c.answer
   pub stream : record_of r.stream ≡ c.stream
+  pub looked : looked_of r.answer ≡ c.looked
   pub cells : after ≡ over c.ids before

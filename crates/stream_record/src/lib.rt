@@ -5,7 +5,9 @@
 ghost use Rattle.std.specs.Prelude.{◌≡◌, List, ℕ, ◌≤◌, length};
 ghost use Rattle.spec.specs.Memory.{padded};
 ghost use Rattle.spec.specs.Stream as spec;
-ghost use Rattle.stream_record.specs.Answers.{record_of, refusal_of};
+ghost use Rattle.stream_record.specs.Answers.{record_of, refusal_of, refused_looked};
+
+use tally::{NO_IDS, Tally};
 
 // Phases of a stream; any other number counts as ended.
 // Kept: the C interface; a program lends the record with any number in it.
@@ -44,14 +46,14 @@ pub enum StreamError {
     Ended,
     TooMany,
     OutputShort,
-    Stopped { count: usize, offset: u32, byte: u8 },
+    Stopped { given: Tally, offset: u32, byte: u8 },
 }
 
-/// A call's answer, which says how many ids it handed out, and the record that it leaves.
+/// A call's answer, which says how many ids it handed out and the bytes looked at for them, and the record that it leaves.
 #[derive(Clone, Copy)]
 pub struct Called {
     pub stream: Stream,
-    pub answer: Result<usize, StreamError>,
+    pub answer: Result<Tally, StreamError>,
 }
 
 /// A new stream.
@@ -64,8 +66,9 @@ pub fn fresh() -> Stream
 /// Numbers 26, 22, 25 and 24, for a piece and an output of these lengths.
 #[tactic(auto, using(std::proofs::lemmas::Bool::Decides::nat_tests), unfolding(spec::specs::Stream::call_refusal))]
 pub fn refused_by(stream: Stream, piece: usize, out: usize) -> Result<(), StreamError>
-    ensures { (bytes cells : List ℕ) → length bytes ≡ piece → length cells ≡ out
+    ensures refusal { (bytes cells : List ℕ) → length bytes ≡ piece → length cells ≡ out
         → refusal_of result ≡ spec.call_refusal (record_of stream) (spec.add bytes cells) }
+    ensures looked { refused_looked result ≡ 0 }
 {
     let held = usize::from(stream.held_len);
     let total = stream.total as usize;
@@ -74,7 +77,7 @@ pub fn refused_by(stream: Stream, piece: usize, out: usize) -> Result<(), Stream
     }
     if stream.phase == STOPPED {
         return Err(StreamError::Stopped {
-            count: 0,
+            given: NO_IDS,
             offset: stream.stop_offset,
             byte: stream.stop_byte,
         });
@@ -99,9 +102,9 @@ fn hold(rest: &[u8]) -> [u8; 254]
 }
 
 /// A call that leaves the stream open, with these bytes held.
-pub fn opened(total: u32, rest: &[u8], count: usize) -> Called
+pub fn opened(total: u32, rest: &[u8], given: Tally) -> Called
     requires { length rest.now ≤ 254 }
-    ensures { (result.answer ≡ Ok count) × (record_of result.stream ≡ spec.holding 0 total rest.now) }
+    ensures { (result.answer ≡ Ok given) × (record_of result.stream ≡ spec.holding 0 total rest.now) }
 {
     let stream = Stream {
         total,
@@ -111,13 +114,13 @@ pub fn opened(total: u32, rest: &[u8], count: usize) -> Called
     };
     Called {
         stream,
-        answer: Ok(count),
+        answer: Ok(given),
     }
 }
 
 /// A call that stops the stream: held bytes are dropped.
-pub fn stopped(total: u32, offset: u32, byte: u8, count: usize) -> Called
-    ensures { (result.answer ≡ Err (StreamError.Stopped count offset byte))
+pub fn stopped(total: u32, offset: u32, byte: u8, given: Tally) -> Called
+    ensures { (result.answer ≡ Err (StreamError.Stopped given offset byte))
         × (record_of result.stream ≡ spec.stopped_at total offset byte) }
 {
     let stream = Stream {
@@ -130,7 +133,7 @@ pub fn stopped(total: u32, offset: u32, byte: u8, count: usize) -> Called
     Called {
         stream,
         answer: Err(StreamError::Stopped {
-            count,
+            given,
             offset,
             byte,
         }),

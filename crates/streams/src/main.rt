@@ -1,16 +1,19 @@
-// Runs streams over the memory of document 01's vocabulary V with one token more, 255 times x, and writes what each call answers: the
-// document's examples, a stream that holds 254 bytes, and calls that are refused. Then every string of seven letters a to d and spaces,
-// cut into pieces at its spaces: how many give other ids or another refusal than the letters as a whole.
+// Runs streams over the memory of document 01's vocabulary V with one token more, 255 times x, and writes what each call answers, and the
+// bytes looked at for its ids: the document's examples, a stream that holds 254 bytes, and calls that are refused. Then the bytes looked
+// at alone: of pieces of aa over another vocabulary, of every cutting of some letters, and of matches in short strings. Then every string
+// of seven letters a to d and bars, cut into pieces at its bars: how many give other ids or another refusal than the letters as a whole.
 #![tactic(auto)]
 
 ghost use Rattle.std.specs.Prelude.{◌≤◌, length};
 
 use cases::write_ids;
 use encoding::EncodeError;
+use matching::{Match, Matched};
 use memory::Memory;
 use std::alloc::{AllocError, Global};
 use std::{fmt, io};
 use stream_record::{ENDED, Stream, StreamError};
+use tally::{NO_IDS, Tally};
 
 // Why a call went no further.
 #[derive(Clone, Copy, Debug, PartialEq, Eq)]
@@ -39,73 +42,78 @@ impl fmt::Display for Refused {
     }
 }
 
-// How many ids a call handed out, and why it went no further, if it did not.
+// The ids that a call handed out, by their number and the bytes looked at, and why it went no further, if it did not.
 #[derive(Clone, Copy, Debug, PartialEq, Eq)]
 struct Outcome {
-    count: usize,
+    given: Tally,
     refused: Option<Refused>,
 }
 
 impl Outcome {
-    fn refused(count: usize, by: Refused) -> Outcome {
+    fn refused(given: Tally, by: Refused) -> Outcome {
         Outcome {
-            count,
+            given,
             refused: Some(by),
         }
     }
+
+    // How many ids it handed out, and why it went no further.
+    fn without_looked(self) -> (usize, Option<Refused>) {
+        (self.given.count, self.refused)
+    }
 }
 
-impl From<Result<usize, StreamError>> for Outcome {
-    fn from(answer: Result<usize, StreamError>) -> Outcome {
+impl From<Result<Tally, StreamError>> for Outcome {
+    fn from(answer: Result<Tally, StreamError>) -> Outcome {
         match answer {
-            Ok(count) => Outcome {
-                count,
+            Ok(given) => Outcome {
+                given,
                 refused: None,
             },
-            Err(StreamError::ShortMemory) => Outcome::refused(0, Refused::ShortMemory),
-            Err(StreamError::Ended) => Outcome::refused(0, Refused::Ended),
-            Err(StreamError::TooMany) => Outcome::refused(0, Refused::TooMany),
-            Err(StreamError::OutputShort) => Outcome::refused(0, Refused::OutputShort),
+            Err(StreamError::ShortMemory) => Outcome::refused(NO_IDS, Refused::ShortMemory),
+            Err(StreamError::Ended) => Outcome::refused(NO_IDS, Refused::Ended),
+            Err(StreamError::TooMany) => Outcome::refused(NO_IDS, Refused::TooMany),
+            Err(StreamError::OutputShort) => Outcome::refused(NO_IDS, Refused::OutputShort),
             Err(
                 StreamError::Stopped {
-                    count,
+                    given,
                     offset,
                     byte,
                 },
             ) => {
                 let offset = u64::from(offset);
-                Outcome::refused(count, Refused::NoToken { offset, byte })
+                Outcome::refused(given, Refused::NoToken { offset, byte })
             }
         }
     }
 }
 
-impl From<Result<usize, EncodeError>> for Outcome {
-    fn from(answer: Result<usize, EncodeError>) -> Outcome {
+impl From<Result<Tally, EncodeError>> for Outcome {
+    fn from(answer: Result<Tally, EncodeError>) -> Outcome {
         match answer {
-            Ok(count) => Outcome {
-                count,
+            Ok(given) => Outcome {
+                given,
                 refused: None,
             },
-            Err(EncodeError::ShortMemory) => Outcome::refused(0, Refused::ShortMemory),
-            Err(EncodeError::Full { .. }) => Outcome::refused(0, Refused::Full),
+            Err(EncodeError::ShortMemory) => Outcome::refused(NO_IDS, Refused::ShortMemory),
+            Err(EncodeError::Full { given, .. }) => Outcome::refused(given, Refused::Full),
             Err(
                 EncodeError::NoToken {
-                    count,
+                    given,
                     offset,
                     byte,
                 },
             ) => {
                 let offset = offset as u64;
-                Outcome::refused(count, Refused::NoToken { offset, byte })
+                Outcome::refused(given, Refused::NoToken { offset, byte })
             }
         }
     }
 }
 
 // A stream that is given these pieces, and then ended; its ids go to `ids`. Each call, by its piece or the word `end`, goes to `seen` with
-// why it went no further, if it did not, and the ids that it handed out.
-fn feed<F: FnMut(&[u8], Option<Refused>, &[u32]) -> io::Result<()>>(
+// its outcome and the ids that it handed out. The whole has the ids and the bytes looked at of all calls, and the last one's refusal.
+fn feed<F: FnMut(&[u8], Outcome, &[u32]) -> io::Result<()>>(
     memory: Memory,
     start: Stream,
     pieces: &[&[u8]],
@@ -117,30 +125,37 @@ fn feed<F: FnMut(&[u8], Option<Refused>, &[u32]) -> io::Result<()>>(
     let mut now = start;
     // Kept: without `n`, each turn ends in `(given, left) = mem::take(&mut left).split_at_mut(count)`, and the sum of the counts stays.
     let mut n = 0;
+    let mut sum: u64 = 0;
     for piece in pieces {
         let called = stream::add(memory, now, piece, &mut ids[n..]);
         let outcome = Outcome::from(called.answer);
-        let end = ids.len().min(n.saturating_add(outcome.count));
-        seen(piece, outcome.refused, &ids[n..end])?;
+        let end = ids.len().min(n.saturating_add(outcome.given.count));
+        seen(piece, outcome, &ids[n..end])?;
         now = called.stream;
         n = end;
+        sum = sum.saturating_add(outcome.given.looked);
     }
     let called = stream::end(memory, now, &mut ids[n..]);
     let last = Outcome::from(called.answer);
-    let count = ids.len().min(n.saturating_add(last.count));
-    seen(b"end", last.refused, &ids[n..count])?;
-    Ok(Outcome { count, ..last })
+    let count = ids.len().min(n.saturating_add(last.given.count));
+    seen(b"end", last, &ids[n..count])?;
+    let looked = sum.saturating_add(last.given.looked);
+    Ok(Outcome {
+        given: Tally { count, looked },
+        ..last
+    })
 }
 
-// A piece or the word end, the ids handed out, and the refusal if there is one.
-fn say(rt: &impl Print, piece: &[u8], refused: Option<Refused>, ids: &[u32]) -> io::Result<()> {
+// A piece or the word end, the ids handed out, the refusal if there is one, and the bytes looked at for the ids.
+fn say(rt: &impl Print, piece: &[u8], outcome: Outcome, ids: &[u32]) -> io::Result<()> {
     rt.write_all(piece)?;
     print!(rt; ":")?;
     write_ids(rt, ids)?;
-    if let Some(refused) = refused {
+    if let Some(refused) = outcome.refused {
         print!(rt; " {refused}")?;
     }
-    println!(rt)
+    let looked = outcome.given.looked;
+    println!(rt; " looked {looked}")
 }
 
 // What each call of such a stream answers, one to a line; `ids` is its output.
@@ -151,8 +166,8 @@ fn show_into(
     pieces: &[&[u8]],
     ids: &mut [u32],
 ) -> io::Result<()> {
-    feed(memory, start, pieces, ids, |piece, refused, ids| {
-        say(rt, piece, refused, ids)
+    feed(memory, start, pieces, ids, |piece, outcome, ids| {
+        say(rt, piece, outcome, ids)
     })?;
     println!(rt)
 }
@@ -207,13 +222,51 @@ fn refusals(rt: &impl Print, memory: Memory) -> io::Result<()> {
     show(rt, short, fresh, &[b"a"])
 }
 
+// What a whole encoding answers.
+fn show_whole(rt: &impl Print, memory: Memory, src: &[u8]) -> io::Result<()> {
+    let mut ids = [0; 16];
+    let whole = Outcome::from(encoding::encode_sequential_bytes(memory, src, &mut ids));
+    let end = ids.len().min(whole.given.count);
+    say(rt, src, whole, &ids[..end])
+}
+
+// Over the vocabulary `1 'a' 1` the figures of pieces are not that of the whole.
+fn pieces_of_aa(rt: &impl Print, memory: Memory) -> io::Result<()> {
+    show_whole(rt, memory, b"aa")?;
+    show(rt, memory, stream_record::fresh(), &[b"a", b"a"])
+}
+
+// Every cutting of these letters, with the bytes looked at of each of its calls.
+fn cuttings(rt: &impl Print, alloc: Global, memory: Memory, letters: &[u8; 8]) -> io::Result<()> {
+    show_whole(rt, memory, letters)?;
+    for cuts in 0..128u32 {
+        let mut words = Vec::new(alloc);
+        for (place, letter) in letters.iter().enumerate() {
+            words.push(*letter)?;
+            if (cuts >> place) % 2 == 1 {
+                words.push(b'|')?;
+            }
+        }
+        let pieces = words.split(|b| *b == b'|').collect::<Vec<&[u8]>>(alloc)?;
+        rt.write_all(&words)?;
+        print!(rt; ":")?;
+        let fresh = stream_record::fresh();
+        feed(memory, fresh, &pieces, &mut [0; 8], |_, outcome, _| {
+            let looked = outcome.given.looked;
+            print!(rt; " {looked}")
+        })?;
+        println!(rt)?;
+    }
+    println!(rt)
+}
+
 // Whether a stream of this string's pieces gives other ids, or another refusal, than its letters as a whole.
 fn differs(alloc: Global, memory: Memory, words: &[u8]) -> io::Result<bool> {
-    let pieces = words.split(|b| *b == b' ').collect::<Vec<&[u8]>>(alloc)?;
+    let pieces = words.split(|b| *b == b'|').collect::<Vec<&[u8]>>(alloc)?;
     let letters = words
         .iter()
         .copied()
-        .filter(|b| *b != b' ')
+        .filter(|b| *b != b'|')
         .collect::<Vec<u8>>(alloc)?;
     let mut whole_ids = [0; 8];
     let encoded = encoding::encode_sequential_bytes(memory, &letters, &mut whole_ids);
@@ -221,15 +274,15 @@ fn differs(alloc: Global, memory: Memory, words: &[u8]) -> io::Result<bool> {
     let mut cut_ids = [0; 8];
     let fresh = stream_record::fresh();
     let cut = feed(memory, fresh, &pieces, &mut cut_ids, |_, _, _| Ok(()))?;
-    Ok(whole != cut || whole_ids != cut_ids)
+    Ok(whole.without_looked() != cut.without_looked() || whole_ids != cut_ids)
 }
 
-// The string of seven letters a to d and spaces that code spells, five letters to a place.
+// The string of seven letters a to d and bars that code spells, five letters to a place.
 fn spell(code: u32) -> [u8; 7] {
     let mut rest = code;
     let mut words = [0; 7];
     for word in words.iter_mut() {
-        *word = b"abcd "[(rest % 5) as usize];
+        *word = b"abcd|"[(rest % 5) as usize];
         rest /= 5;
     }
     words
@@ -244,6 +297,55 @@ fn differing(alloc: Global, memory: Memory, codes: u32) -> io::Result<u32> {
         }
     }
     Ok(n)
+}
+
+// What matching gives at the start of these bytes, if there are any.
+fn matched(memory: Memory, bytes: &[u8]) -> Option<Matched> {
+    if bytes.is_empty() || memory.single.len() < 256 || memory.roots.len() < 65536 {
+        return None;
+    }
+    Some(matching::match_at(memory, bytes))
+}
+
+// Bytes, the token that they begin with, if there is one, and how many of them were looked at.
+fn say_matched(rt: &impl Print, bytes: &[u8], found: Matched) -> io::Result<()> {
+    rt.write_all(bytes)?;
+    match found.longest {
+        Some(Match { id, len }) => print!(rt; ": id {id} length {len}")?,
+        None => print!(rt; ": no token")?,
+    }
+    let looked = found.looked;
+    println!(rt; " looked {looked}")
+}
+
+// Of the strings of `len` letters, which are those with a code below `codes`, each that is looked at to its end, with its answer. How many
+// of the others are answered otherwise than the bytes of them that are looked at.
+fn matches(rt: &impl Print, memory: Memory, len: usize, codes: u32) -> io::Result<u32>
+    requires { len ≤ 7 }
+{
+    let mut n = 0;
+    for code in 0..codes {
+        let word = spell(code);
+        let bytes = &word[..len];
+        let Some(found) = matched(memory, bytes) else {
+            continue;
+        };
+        if found.looked >= len {
+            say_matched(rt, bytes, found)?;
+        } else if matched(memory, &bytes[..found.looked]) != Some(found) {
+            n += 1;
+        }
+    }
+    Ok(n)
+}
+
+// Every string of up to five letters a to d and bars; no token has a bar.
+fn short_strings(rt: &impl Print, memory: Memory) -> io::Result<()> {
+    for (len, codes) in [(1, 5), (2, 25), (3, 125), (4, 625), (5, 3125)] {
+        let n = matches(rt, memory, len, codes)?;
+        println!(rt; "{n} of {codes} are answered otherwise than what is looked at")?;
+    }
+    println!(rt)
 }
 
 // The memory of V and of 255 times x.
@@ -273,6 +375,18 @@ impl Vocabulary {
             offsets: vec![in alloc; 0; 65537]?,
             roots,
             table,
+        })
+    }
+
+    // The memory of the vocabulary `1 'a' 1`.
+    fn only_a(alloc: Global) -> Result<Vocabulary, AllocError> {
+        let mut single = vec![in alloc; -1; 256]?;
+        single[0x61] = 1;
+        Ok(Vocabulary {
+            single,
+            offsets: vec![in alloc; 0; 65537]?,
+            roots: vec![in alloc; 0; 65536]?,
+            table: Vec::new(alloc),
         })
     }
 
@@ -314,6 +428,9 @@ fn main(rt: HostRuntime) -> io::Result<()> {
     examples(&rt, memory)?;
     held(&rt, memory)?;
     refusals(&rt, memory)?;
+    pieces_of_aa(&rt, Vocabulary::only_a(alloc)?.memory())?;
+    cuttings(&rt, alloc, memory, b"abbcabcd")?;
+    short_strings(&rt, memory)?;
     let codes = 78125;
     let n = differing(alloc, memory, codes)?;
     println!(rt; "{n} of {codes} cuttings differ from the whole")

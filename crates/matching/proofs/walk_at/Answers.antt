@@ -7,5 +7,5 @@ use Rattle.matching.proofs.walk_at.Goals as goal
 pub returns : goal.returns
 unfolding base_in
 returns c =
-    let t = trail_of c.trail_over-trail.result in
-    ap (λ l. record { longest = l; used = t.used; base = t.base }) c.longest.ensures ∙ ap walk_of (c.trail_over-trail.ensures _ _ _)
+    let t = trail_of c.reach_over.result.trail in
+    ap (λ l. record { longest = l; used = t.used; base = t.base }) c.longest.ensures ∙ ap walk_of (c.reach_over.ensures.trail _ _ _)

@@ -10,6 +10,7 @@ use Rattle.stream_record.specs.declared.StreamError.TheVariants.{Stopped}
 use Rattle.runs.specs.declared.Ran.{Ran}
 use Rattle.runs.specs.Running.{RunsTo}
 use Rattle.stream.specs.Handing.{reached}
+use Rattle.runs.proofs.RunTurns.{few_given}
 use Rattle.stream.proofs.Windows.{window}
 use Rattle.stream.proofs.Adding.{waits_few, held-waiting, held-stuck, held-through}
 use Rattle.stream.proofs.take_piece.Goals as goal
@@ -18,13 +19,14 @@ use Rattle.stream.proofs.take_piece.Goals as goal
 record Window (held piece w : List ℕ) : Type 0 where
   from : length held ≤ length w
   upto : length w ≤ length held + length piece
+  few : length w ≤ length held + reached
 
 windowed : (held piece w : List ℕ) → w ≡ window held piece → Window held piece w
 windowed held piece w e =
     let n = ap length e in
     let a = length-append held (take reached piece) in
     let t = length-take reached piece in
-    record { from = omega arith; upto = omega arith }
+    record { from = omega arith; upto = omega arith; few = omega arith }
 
 -- what a run does over the window's bytes
 over_window : (m : Memory) (held piece w : List ℕ) (lent out : List ℕ) (r : Ran) → w ≡ window held piece
@@ -45,7 +47,7 @@ put_rest n l last =
 pub run-requires : goal.run-requires
 run-requires c =
     let j = windowed _ _ _ c.join-joined.ensures in
-    (omega (arith, j.from), omega arith, omega arith, omega (arith, j.upto))
+    (omega (arith, j.from), omega arith, omega arith, omega (arith, j.upto), omega (arith, j.upto))
 
 pub opened-requires : goal.opened-requires
 opened-requires c =
@@ -76,13 +78,15 @@ pub take_rest-requires : goal.take_rest-requires
 take_rest-requires c =
     let j = windowed _ _ _ c.join-joined.ensures in
     let w = c.in-Through.ensures in
+    let f = few_given w in
     let r = rest_long c.args.piece.now (c.in-Through.at - length c.args.held.now) in
-    let o = rest_long c.run.new.out c.in-Through.count in (
+    let o = rest_long c.run.new.out c.in-Through.given.count in (
       omega arith,
       omega arith,
       omega (arith, r, j.upto, w.comes.0, w.comes.1),
       omega (arith, r, o, j.upto, w.comes.0, w.comes.1, w.count, w.few, c.run.auto.out),
-      omega (arith, r, j.upto, w.comes.0, w.comes.1, w.count, w.few),
+      omega (arith, f.0, j.few, w.comes.1),
+      omega (arith, f.1),
     )
 
 pub returns-in-Through : goal.returns-in-Through
@@ -90,9 +94,9 @@ returns-in-Through c =
     let a = c.args in
     let j = windowed _ _ _ c.join-joined.ensures in
     let w = over_window _ _ _ _ _ _ _ c.join-joined.ensures c.in-Through.ensures in
-    let n = c.in-Through.count in
+    let n = c.in-Through.given.count in
     let o = c.run.new.out in
-    held-through _ a.held.now a.piece.now (a.total - length a.held.now) (a.total + length a.piece.now) _ n _ _ _ w
+    held-through _ a.held.now a.piece.now (a.total - length a.held.now) (a.total + length a.piece.now) _ c.in-Through.given _ _ _ w
     (omega (arith, w.comes.0)) (lists.take_rest a.piece.now (c.in-Through.at - length a.held.now))
     (omega (arith, j.upto, w.comes.0, c.in-Through.ensures.comes.1, rest_long a.piece.now (c.in-Through.at - length a.held.now)))
     (lists.take_rest o n)
@@ -116,6 +120,6 @@ returns-in-Stuck c =
     let b = ap (λ (s : List ℕ). get_or s c.in-Stuck.at 0) c.join-joined.ensures in
     held-stuck _ a.held.now a.piece.now (a.total - length a.held.now) (a.total + length a.piece.now) _ _ a.out.now _ _
     (over_window _ _ _ _ _ _ _ c.join-joined.ensures c.in-Stuck.ensures) (
-      c.stopped.ensures.0 ∙ ap (λ (x : ℕ). Err (Stopped c.in-Stuck.count p x)) b,
+      c.stopped.ensures.0 ∙ ap (λ (x : ℕ). Err (Stopped c.in-Stuck.given p x)) b,
       c.stopped.ensures.1 ∙ ap (stopped_at (a.total + length a.piece.now) p) b,
     )

@@ -1,10 +1,11 @@
-//! Other memory: any contents that no load left, where the original does not panic and no match and no pair is longer than 255
-//! bytes.
+//! Other memory: any contents that no load left. The original's answers count where it does not panic and no match and no pair is longer
+//! than 255 bytes; those of encoding are also held to document 01's walk.
 use super::original::RwkvTokenizer as Original;
 use super::random::Random;
 use super::sides::{decode, encode};
 use super::tally::Tally;
 use super::theirs::{decoded, encoded};
+use super::walk;
 use bombrezen::ffi::{Decoding, Memory};
 use std::panic::{AssertUnwindSafe, catch_unwind};
 
@@ -31,7 +32,7 @@ fn table(random: &mut Random, blocks: usize) -> Vec<u64> {
         .collect()
 }
 
-/// Encoding over any words.
+/// Encoding over any words, against the original and against walks that count the bytes they read.
 pub fn encoding(tally: &mut Tally) {
     let mut random = Random::new(5);
     for _ in 0..400 {
@@ -53,9 +54,44 @@ pub fn encoding(tally: &mut Tally) {
         for _ in 0..200 {
             let len = random.below(30);
             let src = random.bytes(&[0, 1, 2, 3], len);
-            let Ok(wanted) = catch_unwind(AssertUnwindSafe(|| encoded(&original, &src, src.len()))) else { continue };
+            let wanted = walk::encoded(memory, &src, src.len());
             let answer = encode(memory, &src, src.len());
-            tally.case(answer.0, answer == wanted, || format!("encoding {src:?} gave {answer:?} and not {wanted:?}"));
+            let theirs = catch_unwind(AssertUnwindSafe(|| encoded(&original, &src, src.len())));
+            let same = answer == wanted && theirs.as_ref().map_or(true, |theirs| *theirs == wanted.0);
+            tally.case(answer.0.0, same, || format!("encoding {src:?} gave {answer:?} and not {theirs:?}, {wanted:?}"));
+        }
+    }
+}
+
+/// Long inputs over words that mostly lead on, past 255 bytes and out of the table, against the same walks.
+pub fn long_walks(tally: &mut Tally) {
+    let mut random = Random::new(15);
+    let offsets = vec![0; 65_537];
+    for round in 0..300 {
+        let blocks = 1 + random.below(3);
+        // Bases are multiples of 4 and bytes are below 4, so that a slot's last two bits are the byte that leads to it.
+        let mut any_word = |odds: usize, label: u64| {
+            let base = 4 * random.below(blocks * 64) as u64;
+            let base = if random.chance(4 * odds) { base + 256 * blocks as u64 } else { base };
+            let base = if random.chance(odds) { 0 } else { base };
+            let id = if random.chance(1 + round % 4) { random.below(9) as u64 } else { 0 };
+            if random.chance(odds) { random.below(2) as u64 } else { base << 32 | id << 8 | label }
+        };
+        let odds = [9, 60, 2000][round % 3];
+        let table: Vec<u64> = (0..blocks as u64 * 256).map(|slot| any_word(odds, slot % 4)).collect();
+        let mut roots = vec![0; 65_536];
+        for (first, second) in (0..16).map(|pair| (pair / 4, pair % 4)) {
+            roots[first * 256 + second] = any_word(6, 0);
+        }
+        let single: Vec<i32> = (0..256).map(|byte| if byte == round % 8 { -1 } else { byte as i32 }).collect();
+        let memory = Memory { single: &single, offsets: &offsets, blob: &[], roots: &roots, table: &table };
+        for _ in 0..30 {
+            let len = random.below(700);
+            let src = random.bytes(&[0, 1, 2, 3], len);
+            for cells in [len, random.below(len / 32 + 2)] {
+                let (wanted, answer) = (walk::encoded(memory, &src, cells), encode(memory, &src, cells));
+                tally.case(answer.0.0, answer == wanted, || format!("encoding {src:?} gave {answer:?} and not {wanted:?}"));
+            }
         }
     }
 }

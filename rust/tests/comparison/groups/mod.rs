@@ -5,6 +5,7 @@ mod editions;
 mod generate;
 mod inputs;
 mod large;
+mod looked;
 mod memory;
 mod random;
 mod reader;
@@ -14,6 +15,7 @@ mod streams;
 mod tally;
 mod texts;
 mod theirs;
+mod walk;
 
 use tally::Tally;
 
@@ -21,7 +23,7 @@ type Group = (&'static str, fn(&mut Tally));
 
 /// Runs every group, prints its counts and the sum; fails if anything differs.
 pub fn all() {
-    let groups: [Group; 19] = [
+    let groups: [Group; 20] = [
         ("short literals", texts::literals),
         ("short lines, fields", texts::lines),
         ("pairs of lines", texts::pairs_of_lines),
@@ -34,6 +36,7 @@ pub fn all() {
         ("inputs and id lists", inputs::inputs),
         ("all short inputs", inputs::short_inputs),
         ("other memory, encoding", memory::encoding),
+        ("other memory, long walks", memory::long_walks),
         ("other memory, decoding", memory::decoding),
         ("streams", streams::streams),
         ("all short streams", streams::short_streams),

@@ -60,7 +60,7 @@ pub fn calls(tally: &mut Tally) {
                             () if room < held + piece => 24,
                             () => 0,
                         };
-                        let carried = if wanted == 22 { [0, 77, 78] } else { [0; 3] };
+                        let carried = if wanted == 22 { [0, 77, 78, 0] } else { [0; 4] };
                         let kept = after == record && report == carried && out.iter().all(|&cell| cell == 5);
                         tally.case(number, number == wanted && (wanted == 0 || kept), || {
                             format!("{record:?}, {piece}, {room}: {number}")

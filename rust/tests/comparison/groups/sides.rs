@@ -102,13 +102,14 @@ fn starts_with_then_zeros<T: PartialEq + Default>(all: &[T], start: &[T]) -> boo
     all.starts_with(start) && all[start.len()..].iter().all(|x| *x == T::default())
 }
 
-/// The library's encoding with so many output cells: number, ids, offset, byte. Cells past the ids must be untouched.
-pub fn encode(memory: Memory<'_>, src: &[u8], cells: usize) -> (u32, Vec<u32>, u64, u64) {
+/// The library's encoding with so many output cells: number, ids, offset and byte, and the bytes looked at. Cells past the ids must be
+/// untouched.
+pub fn encode(memory: Memory<'_>, src: &[u8], cells: usize) -> ((u32, Vec<u32>, u64, u64), u64) {
     let mut out = vec![FILL as u32; cells];
-    let (number, [count, offset, byte]) = ffi::encode(memory, src, &mut out);
+    let (number, [count, offset, byte, looked]) = ffi::encode(memory, src, &mut out);
     let rest = out.split_off(count as usize);
     assert!(rest.iter().all(|&cell| cell == FILL as u32), "a cell past the ids was touched");
-    (number, out, offset, byte)
+    ((number, out, offset, byte), looked)
 }
 
 /// The library's decoding with so many output bytes: number, bytes, index or offset, id.

@@ -1,6 +1,7 @@
 //! Streams, cut everywhere, against the original's ids for the whole and a plain stream made from the tokens alone.
 use super::generate::{input, tokens_of};
 use super::inputs::generated;
+use super::looked::Looking;
 use super::original::RwkvTokenizer as Original;
 use super::random::Random;
 use super::sides::Lent;
@@ -13,13 +14,14 @@ use std::collections::HashMap;
 struct Plain {
     ids: HashMap<Vec<u8>, u32>,
     prefixes: std::collections::HashSet<Vec<u8>>,
+    looking: Looking,
 }
 
 impl Plain {
     fn new(tokens: &[(u32, Vec<u8>)]) -> Self {
         let ids = tokens.iter().map(|(id, token)| (token.clone(), *id)).collect();
         let prefixes = tokens.iter().flat_map(|(_, token)| (0..token.len()).map(|k| token[..k].to_vec())).collect();
-        Self { ids, prefixes }
+        Self { ids, prefixes, looking: Looking::new(tokens) }
     }
 
     /// From a position: the ids decided, and the next position, or the one that fails.
@@ -34,18 +36,19 @@ impl Plain {
     }
 }
 
-/// One stream over these pieces, call by call, and its end: number, ids, offset, byte and record against the plain stream.
+/// One stream over these pieces, call by call, and its end: number, ids, offset, byte, bytes looked at and record against the plain
+/// stream.
 fn same_stream(tally: &mut Tally, memory: Memory<'_>, plain: &Plain, pieces: &[&[u8]]) -> Vec<u32> {
     let mut record = ffi::fresh();
     let (mut taken, mut at, mut all, mut stopped) = (Vec::new(), 0, Vec::new(), None);
     for piece in pieces.iter().map(Some).chain([None]) {
         let room = usize::from(record.held_len) + piece.map_or(0, |piece| piece.len());
         let mut out = vec![7; room + 1];
-        let (number, [count, offset, byte]) = match piece {
+        let (number, [count, offset, byte, looked]) = match piece {
             Some(piece) => ffi::add(memory, &mut record, piece, &mut out),
             None => ffi::end(memory, &mut record, &mut out),
         };
-        let mut ids = Vec::new();
+        let (mut ids, from) = (Vec::new(), at);
         if stopped.is_none() {
             taken.extend_from_slice(piece.map_or(&[][..], |piece| piece));
             match plain.go(&taken, at, piece.is_none(), &mut ids) {
@@ -58,6 +61,7 @@ fn same_stream(tally: &mut Tally, memory: Memory<'_>, plain: &Plain, pieces: &[&
         let phase = if stopped.is_some() { 1 } else { u8::from(piece.is_none()) * 2 };
         let same = number == if stopped.is_some() { 22 } else { 0 }
             && (count as usize, offset, byte) == (ids.len(), place, value)
+            && looked == plain.looking.sum(&taken[from..], &ids)
             && out[..ids.len()] == ids[..]
             && out[ids.len()..].iter().all(|&cell| cell == 7)
             && (record.total, record.phase) == (taken.len() as u32, phase)
