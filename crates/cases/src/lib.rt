@@ -1,9 +1,28 @@
-// For programs that run cases of standard input: bytes in hexadecimal and the ids that they spell, and how answers are written.
+// For programs that run cases of standard input: its first bytes, bytes in hexadecimal and the ids that they spell, and how answers are
+// written.
 #![tactic(auto)]
 
-ghost use Rattle.std.specs.Prelude.{◌≤◌, length};
+ghost use Rattle.std.specs.Prelude.{◌≤◌, length, IfOk};
 
 use std::io;
+use std::io::Read;
+
+// Standard input up to its end, or what of it fills the bytes; how many there were. What comes behind these is not read.
+// Kept: a loop, since what std reads to the end of goes into a Vec, which can run out of memory.
+pub fn read_full<R: Input>(rt: &R, input: &mut [u8]) -> io::Result<usize>
+    ensures { IfOk result (λ n. n ≤ length input.new) }
+{
+    let mut reader = rt.reader();
+    let mut at = 0;
+    while at < input.len() {
+        let n = reader.read(&mut input[at..])?;
+        if n == 0 {
+            return Ok(at);
+        }
+        at += n;
+    }
+    Ok(at)
+}
 
 // Bytes in hexadecimal, in brackets.
 pub fn write_bytes(rt: &impl Print, bytes: &[u8]) -> io::Result<()> {

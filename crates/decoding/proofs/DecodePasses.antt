@@ -4,7 +4,7 @@ use Rattle.std.proofs.Common.{ℕ, suc, ◌+◌, ◌-◌, ◌≤◌, ◌<◌, ar
 use Prim.Native.Nat.{zero-le}
 use native.Mathlib.Nat.{sub-zero}
 use lib.ListN.{drop_of_length-le}
-use lib.Seq.{take-suc, take-add, take-length, take-append-add, take-append-le, take-take, length-take-le}
+use lib.Seq.{take-suc, take-add, take-length, take-take, length-take-le}
 use borrow.Author.Count.{below_none, below_more}
 use borrow.Rule.Slice.PartMut.{put_mid}
 use Rattle.std.specs.Prelude.{Result, Ok, Err}
@@ -16,6 +16,7 @@ use Rattle.spec.specs.Decode.{decode_output, decode_on}
 use Rattle.decoding.specs.declared.DecodeError.{DecodeError}
 use Rattle.decoding.specs.declared.DecodeError.TheVariants.{ShortMemory, Absent, Full}
 use Rattle.decoding.specs.Answers.{answer_of, taken_of, Answered}
+use Rattle.copies.proofs.Fronts.{put-front}
 use Rattle.laws.specs.OneMore.{each_append}
 use Rattle.laws.specs.Decoding.{decode-absent, decode-full, decode-more}
 use Rattle.decoding.proofs.LookupLaws.{Present, present}
@@ -155,15 +156,6 @@ token-copied m i start len new t es el c =
 pub written_none : (m : Memory) (ids before : List ℕ) → Written m ids 0 0 before
 unfolding each
 written_none m ids before = record { joined = joined-none m ids; bytes = refl }
-
--- the front of a list after a part of it was written
-put-front : (d new t : List ℕ) (at k len : ℕ) → at ≤ length d → len ≤ length new → take len new ≡ t
-    → take (at + len) (put_mid at k d new) ≡ take at d ++ t
-put-front d new t at k len h l e =
-    let size : length (take at d) ≡ at = length-take-le at d h in
-    ap (λ (a : ℕ). take (a + len) (put_mid at k d new)) (sym size)
-    ∙ take-append-add (take at d) _ len
-    ∙ ap (λ (r : List ℕ). take at d ++ r) (take-append-le len new _ l ∙ e)
 
 module _ (m : Memory) (ids : List ℕ) (k n : ℕ) (after : List ℕ) (w : Written m ids k n after) where
   -- a token more

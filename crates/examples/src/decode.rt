@@ -26,7 +26,8 @@ impl fmt::Display for Decoded {
 // A byte for the memory, 0 for V, 1 for V with one cell of the offsets too few, else single bytes; one for how many cells of output there
 // are; and the ids. The answer of `decode`, and every cell of the output: `.` where nothing was written.
 pub fn decode_case<F: FnOnce(Memory<'_>, &[u32], &mut [u8]) -> Result<usize, DecodeError>>(
-    rt: &(impl AllocGlobal + Print),
+    rt: &impl Print,
+    cells: &mut Cells,
     case: &[u8],
     decode: F,
 ) -> io::Result<()>
@@ -35,16 +36,17 @@ pub fn decode_case<F: FnOnce(Memory<'_>, &[u32], &mut [u8]) -> Result<usize, Dec
     let [which, room, spelled @ ..] = case else {
         return Ok(());
     };
-    let alloc = rt.alloc();
-    let cells = match which {
-        0 => Cells::v(alloc, 65537)?,
-        1 => Cells::v(alloc, 65536)?,
-        _ => Cells::bytes(alloc)?,
+    let memory = match which {
+        0 => cells.v(false),
+        1 => cells.v(true),
+        _ => cells.bytes(),
     };
-    let mut ids = vec![in alloc; 0; (spelled.len() / 3).min(16)]?;
-    read_ids(spelled, &mut ids);
-    let mut out = vec![in alloc; b'.'; usize::from(*room)]?;
-    let decoded = Decoded(decode(cells.memory(), &ids, &mut out));
+    // Kept: arrays and how much of them counts, since an array cannot run out of memory.
+    let mut ids = [0; 16];
+    let count = read_ids(spelled, &mut ids);
+    let mut all = [b'.'; 256];
+    let out = &mut all[..usize::from(*room)];
+    let decoded = Decoded(decode(memory, &ids[..count], &mut *out));
     print!(rt; "{decoded} ")?;
-    write_bytes(rt, &out)
+    write_bytes(rt, out)
 }

@@ -1,53 +1,63 @@
 // Small vocabulary memory.
 use memory::Memory;
-use std::alloc::{AllocError, Global};
 
 // The cells that are lent. `single` and roots play no part but in number 1.
 // Kept: as the cells of `replay`, with another part left out and other makers.
+// Kept: arrays that `main` owns, since an array cannot run out of memory; so a maker writes over what another left. They are lent one by
+// one: of roots only the number counts, and the built program then has none.
 #[derive(Drop)]
-pub struct Cells {
-    single: Vec<i32>,
-    offsets: Vec<u32>,
-    blob: Vec<u8>,
-    roots: Vec<u64>,
+pub struct Cells<'a> {
+    pub single: &'a [i32],
+    pub offsets: &'a mut [u32; 65537],
+    pub blob: &'a mut [u8; 256],
+    pub roots: &'a [u64],
 }
 
-impl Cells {
-    fn new(alloc: Global, offsets: Vec<u32>, blob: Vec<u8>) -> Result<Cells, AllocError> {
-        Ok(Cells {
-            single: vec![in alloc; -1; 256]?,
-            offsets,
-            blob,
-            roots: vec![in alloc; 0; 65536]?,
-        })
+impl Cells<'_> {
+    // No token, whatever the offsets are, since the blob is empty.
+    pub fn empty(&self, short: bool) -> Memory<'_> {
+        self.lend(&[], short)
     }
 
-    // No token, and so many cells of the offsets.
-    pub fn empty(alloc: Global, count: usize) -> Result<Cells, AllocError> {
-        Cells::new(alloc, vec![in alloc; 0; count]?, Vec::new(alloc))
-    }
-
-    // Document 01's vocabulary V, and so many cells of the offsets.
-    pub fn v(alloc: Global, count: usize) -> Result<Cells, AllocError> {
-        let mut offsets = Vec::from_array(alloc, [0, 0, 1, 2, 4, 8])?;
-        offsets.resize(count, 10)?;
-        Cells::new(alloc, offsets, b"abababcdbc".to_vec(alloc)?)
+    // Document 01's vocabulary V.
+    pub fn v(&mut self, short: bool) -> Memory<'_> {
+        put_v(&mut *self.offsets);
+        self.lend(b"abababcdbc", short)
     }
 
     // Each of the ids below 256 is the byte of that number.
-    pub fn bytes(alloc: Global) -> Result<Cells, AllocError> {
-        let mut offsets = (0..256).collect::<Vec<u32>>(alloc)?;
-        offsets.resize(65537, 256)?;
-        Cells::new(alloc, offsets, (0..=255).collect::<Vec<u8>>(alloc)?)
+    pub fn bytes(&mut self) -> Memory<'_> {
+        put_bytes(&mut *self.offsets, &mut *self.blob);
+        self.lend(&*self.blob, false)
     }
 
-    pub fn memory(&self) -> Memory<'_> {
+    // The memory with this blob, and with one cell of the offsets too few if it is to be short.
+    fn lend<'b>(&'b self, blob: &'b [u8], short: bool) -> Memory<'b> {
+        let offsets = &*self.offsets;
+        let count = offsets.len() - usize::from(short);
         Memory {
-            single: &self.single,
-            offsets: &self.offsets,
-            blob: &self.blob,
-            roots: &self.roots,
+            single: self.single,
+            offsets: &offsets[..count],
+            blob,
+            roots: self.roots,
             table: &[],
         }
+    }
+}
+
+// Kept: two functions of the arrays, since in the methods writing behind two references is not proved.
+
+// The offsets of V.
+fn put_v(offsets: &mut [u32; 65537]) {
+    offsets.fill(10);
+    offsets[..6].copy_from_slice(&[0, 0, 1, 2, 4, 8]);
+}
+
+// The offsets and the blob of single bytes.
+fn put_bytes(offsets: &mut [u32; 65537], blob: &mut [u8; 256]) {
+    offsets.fill(256);
+    for ((offset, byte), id) in offsets.iter_mut().zip(blob.iter_mut()).zip(0..=255) {
+        *offset = u32::from(id);
+        *byte = id;
     }
 }

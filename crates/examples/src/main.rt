@@ -5,11 +5,11 @@
 // bytes, text and lossy text. `cases.py` makes the cases and, by Python's own means, the answers.
 #![tactic(auto)]
 
-use cases::{unhex, write_bytes};
+use cases::{read_full, unhex, write_bytes};
+use lent::Cells;
 use line::{Fields, Lines};
 use refusals::{LoadError, Refusal};
 use std::io;
-use std::io::Read;
 use texts::Refused;
 
 mod decode;
@@ -17,14 +17,12 @@ mod lent;
 mod runs;
 mod texts;
 
-// What a literal of an edition stands for, which has no more bytes than the literal.
-fn literal_case(rt: &(impl AllocGlobal + Print), text: &[u8], edition: u32) -> io::Result<()> {
-    let mut bytes = vec![in rt.alloc(); 0; text.len()]?;
+// What a literal of an edition stands for, which has no more bytes than the literal; a case has at most 64.
+fn literal_case(rt: &impl Print, text: &[u8], edition: u32) -> io::Result<()> {
+    // Kept: an array and how much of it counts, since an array cannot run out of memory.
+    let mut bytes = [0; 64];
     match literal::parse_python_literal_into(text, edition, &mut bytes) {
-        Some(length) => {
-            bytes.truncate(length);
-            write_bytes(rt, &bytes)
-        }
+        Some(length) => write_bytes(rt, &bytes[..length.min(64)]),
         None => rt.print(Refused(LoadError::from(Refusal::BadLiteral))),
     }
 }
@@ -68,7 +66,7 @@ fn fields_case(rt: &impl Print, text: &[u8]) -> io::Result<()> {
 
 // The answer of a case of any kind.
 // Kept: the letter of a case is read here and nowhere else; an enum of the kinds would be matched once to be made and once more.
-fn answer(rt: &(impl AllocGlobal + Print), kind: u8, bytes: &[u8]) -> io::Result<()> {
+fn answer(rt: &impl Print, cells: &mut Cells, kind: u8, bytes: &[u8]) -> io::Result<()> {
     match kind {
         b'L' => literal_case(rt, bytes, 1),
         b'M' => literal_case(rt, bytes, 2),
@@ -79,29 +77,38 @@ fn answer(rt: &(impl AllocGlobal + Print), kind: u8, bytes: &[u8]) -> io::Result
         b'H' => digit_case(rt, bytes),
         b'U' => rt.print(runs::good(bytes)),
         b'S' => runs::runs_case(rt, bytes),
-        b'B' => texts::text_case(rt, bytes),
-        b'D' => decode::decode_case(rt, bytes, decoding::decode_bytes),
-        b'X' => decode::decode_case(rt, bytes, decoding::decode_utf8),
-        b'Y' => decode::decode_case(rt, bytes, lossy::decode_lossy),
+        b'B' => texts::text_case(rt, cells, bytes),
+        b'D' => decode::decode_case(rt, cells, bytes, decoding::decode_bytes),
+        b'X' => decode::decode_case(rt, cells, bytes, decoding::decode_utf8),
+        b'Y' => decode::decode_case(rt, cells, bytes, lossy::decode_lossy),
         _ => print!(rt; "?"),
     }
 }
 
-fn one_case(rt: &(impl AllocGlobal + Print), case: &[u8]) -> io::Result<()> {
+fn one_case(rt: &impl Print, cells: &mut Cells, case: &[u8]) -> io::Result<()> {
     let [kind, _, digits @ ..] = case else {
         return Ok(());
     };
-    let mut bytes = vec![in rt.alloc(); 0; (digits.len() / 2).min(64)]?;
-    unhex(digits, &mut bytes);
+    // Kept: an array and how much of it counts, since an array cannot run out of memory.
+    let mut bytes = [0; 64];
+    let count = unhex(digits, &mut bytes);
     rt.write_all(case)?;
     print!(rt; ": ")?;
-    answer(rt, *kind, &bytes)?;
+    answer(rt, cells, *kind, &bytes[..count])?;
     println!(rt)
 }
 
 fn main(rt: HostRuntime) -> io::Result<()> {
-    let mut input = Vec::new(rt.alloc());
-    rt.reader().read_to_end(&mut input)?;
-    input.truncate(65536);
-    Lines::new(&input).try_for_each(|case| one_case(&rt, case))
+    // Kept: arrays and how much of the input counts, since an array cannot run out of memory.
+    let single = [-1; 256];
+    let roots = [0; 65536];
+    let mut cells = Cells {
+        single: &single,
+        offsets: &mut [0; 65537],
+        blob: &mut [0; 256],
+        roots: &roots,
+    };
+    let mut input = [0; 65536];
+    let count = read_full(&rt, &mut input)?;
+    Lines::new(&input[..count]).try_for_each(|case| one_case(&rt, &mut cells, case))
 }

@@ -18,14 +18,12 @@ impl fmt::Display for Refused {
 }
 
 // A byte, 1 for memory with one cell of the offsets too few, the edition, and the text.
-pub fn text_case(rt: &(impl AllocGlobal + Print), case: &[u8]) -> io::Result<()> {
+pub fn text_case(rt: &impl Print, cells: &mut Cells, case: &[u8]) -> io::Result<()> {
     let [short, edition, text @ ..] = case else {
         return Ok(());
     };
-    let count = if *short == 1 { 65536 } else { 65537 };
-    let cells = Cells::empty(rt.alloc(), count)?;
     let how = source::text_of(u32::from(*edition), true);
-    match source::start_of(text, how, cells.memory()) {
+    match source::start_of(text, how, cells.empty(*short == 1)) {
         Ok(_) => print!(rt; "read on"),
         Err(error) => rt.print(Refused(error)),
     }

@@ -1,6 +1,7 @@
-// The memory that all cases share.
-use memory::MemoryMut;
-use std::alloc::{AllocError, Global};
+// How much of the memory a case has.
+ghost use Rattle.std.specs.Prelude.{◌≤◌};
+
+use memory::Memory;
 
 // A part of the memory that number 1 is about.
 #[derive(Clone, Copy, Debug, PartialEq, Eq)]
@@ -22,42 +23,22 @@ impl Part {
     }
 }
 
-// The cells.
-// Kept: each program fills a memory of its own and lacks another part; one type in `cases` would have the makers of all three.
-#[derive(Drop)]
-pub struct Cells {
-    single: Vec<i32>,
-    offsets: Vec<u32>,
-    blob: Vec<u8>,
-    roots: Vec<u64>,
-    table: Vec<u64>,
+// How many of so many cells a case has: one less if they are short.
+pub fn less_one(count: usize, short: bool) -> usize
+    ensures { result ≤ count }
+{
+    count.saturating_sub(usize::from(short))
 }
 
-impl Cells {
-    pub fn new(alloc: Global) -> Result<Cells, AllocError> {
-        Ok(Cells {
-            single: vec![in alloc; 0; 256]?,
-            offsets: vec![in alloc; 0; 65537]?,
-            blob: vec![in alloc; 0; 4096]?,
-            roots: vec![in alloc; 0; 65536]?,
-            table: vec![in alloc; 0; 4096]?,
-        })
+// The memory, less one cell of the part that is short.
+pub fn shortened(memory: Memory<'_>, short: Option<Part>) -> Memory<'_> {
+    let single = less_one(memory.single.len(), short == Some(Part::Single));
+    let offsets = less_one(memory.offsets.len(), short == Some(Part::Offsets));
+    let roots = less_one(memory.roots.len(), short == Some(Part::Roots));
+    Memory {
+        single: &memory.single[..single],
+        offsets: &memory.offsets[..offsets],
+        roots: &memory.roots[..roots],
+        ..memory
     }
-
-    // All of them, but for one cell of the part that is short.
-    pub fn lend(&mut self, short: Option<Part>) -> MemoryMut<'_> {
-        MemoryMut {
-            single: less_one(&mut self.single, short == Some(Part::Single)),
-            offsets: less_one(&mut self.offsets, short == Some(Part::Offsets)),
-            blob: &mut self.blob,
-            roots: less_one(&mut self.roots, short == Some(Part::Roots)),
-            table: &mut self.table,
-        }
-    }
-}
-
-// The cells, without the last if they are to be short.
-fn less_one<T>(cells: &mut [T], short: bool) -> &mut [T] {
-    let count = cells.len().saturating_sub(usize::from(short));
-    &mut cells[..count]
 }

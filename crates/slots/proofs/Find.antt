@@ -27,8 +27,8 @@ abbrev pub ClashWord : List ℕ → ℕ → List ℕ → ℕ → ℕ → Type 0
 ClashWord used l1 ls i r = (j : ℕ) → j < 64 → eqb (bit r j) 1 ≡ clash_at used l1 ls (i * 64 + j)
 
 -- a label moves a word within its block of four
-pub in_four : (i d n : ℕ) → d < 256 → i < n → n % 4 ≡ 0 → bit_xor i (d / 64) < n
-in_four i d n h k four = let e = xor_shr i (d / 64) 2 in let z : d / 64 / 4 ≡ 0 = omega arith in let q = ap (bit_xor (i / 4)) z
+pub in_four : (i d n : ℕ) → d < 256 → i / 4 * 4 + 4 ≤ n → bit_xor i (d / 64) < n
+in_four i d n h k = let e = xor_shr i (d / 64) 2 in let z : d / 64 / 4 ≡ 0 = omega arith in let q = ap (bit_xor (i / 4)) z
     ∙ lib.Bits.xor_zero_r (i / 4) in omega arith
 
 -- a word permuted has the marks of the slots moved

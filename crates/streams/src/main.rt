@@ -10,7 +10,6 @@ use cases::write_ids;
 use encoding::EncodeError;
 use matching::{Match, Matched};
 use memory::Memory;
-use std::alloc::{AllocError, Global};
 use std::{fmt, io};
 use stream_record::{ENDED, Stream, StreamError};
 use tally::{NO_IDS, Tally};
@@ -236,22 +235,46 @@ fn pieces_of_aa(rt: &impl Print, memory: Memory) -> io::Result<()> {
     show(rt, memory, stream_record::fresh(), &[b"a", b"a"])
 }
 
+// Writes the items into the cells from their start, as far as there are both; the cells that were written.
+// Kept: an array with a count in place of `collect`, since an array cannot run out of memory.
+fn fill<T: Copy, I: Iterator<Item = T> + Drop>(cells: &mut [T], items: I) -> &[T]
+    requires { I.can_next items }
+{
+    let mut n = 0;
+    for (cell, item) in cells.iter_mut().zip(items) {
+        *cell = item;
+        n += 1;
+    }
+    &cells[..n]
+}
+
+// These letters with a bar behind each whose bit of `cuts` is 1, written into `cells` from their start.
+// Kept: an array with a count in place of `push`, since an array cannot run out of memory.
+fn with_bars<'a>(letters: &[u8; 8], cuts: u32, cells: &'a mut [u8; 16]) -> &'a [u8] {
+    let mut n = 0;
+    for (place, letter) in letters.iter().enumerate() {
+        cells[n] = *letter;
+        n += 1;
+        if (cuts >> place) % 2 == 1 {
+            cells[n] = b'|';
+            n += 1;
+        }
+    }
+    &cells[..n]
+}
+
 // Every cutting of these letters, with the bytes looked at of each of its calls.
-fn cuttings(rt: &impl Print, alloc: Global, memory: Memory, letters: &[u8; 8]) -> io::Result<()> {
+fn cuttings(rt: &impl Print, memory: Memory, letters: &[u8; 8]) -> io::Result<()> {
     show_whole(rt, memory, letters)?;
     for cuts in 0..128u32 {
-        let mut words = Vec::new(alloc);
-        for (place, letter) in letters.iter().enumerate() {
-            words.push(*letter)?;
-            if (cuts >> place) % 2 == 1 {
-                words.push(b'|')?;
-            }
-        }
-        let pieces = words.split(|b| *b == b'|').collect::<Vec<&[u8]>>(alloc)?;
-        rt.write_all(&words)?;
+        let mut word_cells = [0; 16];
+        let words = with_bars(letters, cuts, &mut word_cells);
+        let mut piece_cells: [&[u8]; 8] = [&[]; 8];
+        let pieces = fill(&mut piece_cells, words.split(|b| *b == b'|'));
+        rt.write_all(words)?;
         print!(rt; ":")?;
         let fresh = stream_record::fresh();
-        feed(memory, fresh, &pieces, &mut [0; 8], |_, outcome, _| {
+        feed(memory, fresh, pieces, &mut [0; 8], |_, outcome, _| {
             let looked = outcome.given.looked;
             print!(rt; " {looked}")
         })?;
@@ -260,20 +283,21 @@ fn cuttings(rt: &impl Print, alloc: Global, memory: Memory, letters: &[u8; 8]) -
     println!(rt)
 }
 
-// Whether a stream of this string's pieces gives other ids, or another refusal, than its letters as a whole.
-fn differs(alloc: Global, memory: Memory, words: &[u8]) -> io::Result<bool> {
-    let pieces = words.split(|b| *b == b'|').collect::<Vec<&[u8]>>(alloc)?;
-    let letters = words
-        .iter()
-        .copied()
-        .filter(|b| *b != b'|')
-        .collect::<Vec<u8>>(alloc)?;
+// Whether a stream of this string's pieces gives other ids, or another refusal, than its letters as a whole; it has seven letters and bars.
+fn differs(memory: Memory, words: &[u8]) -> io::Result<bool> {
+    let mut piece_cells: [&[u8]; 8] = [&[]; 8];
+    let pieces = fill(&mut piece_cells, words.split(|b| *b == b'|'));
+    let mut letter_cells = [0; 8];
+    let letters = fill(
+        &mut letter_cells,
+        words.iter().copied().filter(|b| *b != b'|'),
+    );
     let mut whole_ids = [0; 8];
-    let encoded = encoding::encode_sequential_bytes(memory, &letters, &mut whole_ids);
+    let encoded = encoding::encode_sequential_bytes(memory, letters, &mut whole_ids);
     let whole = Outcome::from(encoded);
     let mut cut_ids = [0; 8];
     let fresh = stream_record::fresh();
-    let cut = feed(memory, fresh, &pieces, &mut cut_ids, |_, _, _| Ok(()))?;
+    let cut = feed(memory, fresh, pieces, &mut cut_ids, |_, _, _| Ok(()))?;
     Ok(whole.without_looked() != cut.without_looked() || whole_ids != cut_ids)
 }
 
@@ -289,10 +313,10 @@ fn spell(code: u32) -> [u8; 7] {
 }
 
 // How many of the strings with a code below `codes` differ.
-fn differing(alloc: Global, memory: Memory, codes: u32) -> io::Result<u32> {
+fn differing(memory: Memory, codes: u32) -> io::Result<u32> {
     let mut n = 0;
     for code in 0..codes {
-        if differs(alloc, memory, &spell(code))? {
+        if differs(memory, &spell(code))? {
             n += 1;
         }
     }
@@ -348,52 +372,47 @@ fn short_strings(rt: &impl Print, memory: Memory) -> io::Result<()> {
     println!(rt)
 }
 
-// The memory of V and of 255 times x.
-// Kept: as the cells of `replay`, with another part left out and other makers.
+// The offsets of a memory without a blob, all 0.
+// Kept: an array, since an array cannot run out of memory; nothing is written into it, so that it need not lie on the stack.
+static OFFSETS: [u32; 65537] = [0; 65537];
+
+// The other cells of a memory; `main` has them once, and each vocabulary is written into them when it is wanted.
+// Kept: arrays, since an array cannot run out of memory.
 #[derive(Drop)]
-struct Vocabulary {
-    single: Vec<i32>,
-    offsets: Vec<u32>,
-    roots: Vec<u64>,
-    table: Vec<u64>,
+struct Cells {
+    single: [i32; 256],
+    roots: [u64; 65536],
+    table: [u64; 65280],
 }
 
-impl Vocabulary {
-    fn new(alloc: Global) -> Result<Vocabulary, AllocError> {
-        let mut single = vec![in alloc; -1; 256]?;
-        single[0x61] = 1;
-        single[0x62] = 2;
-        let mut roots = vec![in alloc; 0; 65536]?;
-        roots[0x6162] = 0x16300000300;
-        roots[0x6263] = 0x500;
-        let mut table = vec![in alloc; 0; 65280]?;
-        table[256] = 0x16500000063;
-        table[257] = 0x464;
-        chain(&mut roots, &mut table);
-        Ok(Vocabulary {
-            single,
-            offsets: vec![in alloc; 0; 65537]?,
-            roots,
-            table,
-        })
+impl Cells {
+    // The memory of V and of 255 times x, over cells that are empty or hold the other vocabulary.
+    fn vocabulary(&mut self) -> Memory<'_> {
+        self.single[0x61] = 1;
+        self.single[0x62] = 2;
+        self.roots[0x6162] = 0x16300000300;
+        self.roots[0x6263] = 0x500;
+        self.table[256] = 0x16500000063;
+        self.table[257] = 0x464;
+        chain(&mut self.roots, &mut self.table);
+        self.memory()
     }
 
-    // The memory of the vocabulary `1 'a' 1`.
-    fn only_a(alloc: Global) -> Result<Vocabulary, AllocError> {
-        let mut single = vec![in alloc; -1; 256]?;
-        single[0x61] = 1;
-        Ok(Vocabulary {
-            single,
-            offsets: vec![in alloc; 0; 65537]?,
-            roots: vec![in alloc; 0; 65536]?,
-            table: Vec::new(alloc),
-        })
+    // The memory of the vocabulary `1 'a' 1`, which has no table.
+    fn only_a(&mut self) -> Memory<'_> {
+        self.single.fill(-1);
+        self.single[0x61] = 1;
+        self.roots.fill(0);
+        Memory {
+            table: &[],
+            ..self.memory()
+        }
     }
 
     fn memory(&self) -> Memory<'_> {
         Memory {
             single: &self.single,
-            offsets: &self.offsets,
+            offsets: &OFFSETS,
             blob: b"",
             roots: &self.roots,
             table: &self.table,
@@ -402,7 +421,7 @@ impl Vocabulary {
 }
 
 // The words of 255 times x: a node of n bytes has the base 256 n.
-// Kept: roots and table, which have words; `Vocabulary` is made of them when they are done.
+// Kept: roots and table, which have words, and not the other cells.
 fn chain(roots: &mut [u64], table: &mut [u64])
     requires { (65536 ≤ length roots.old) × (65280 ≤ length table.old) }
 {
@@ -422,16 +441,20 @@ fn base_word(n: u64) -> u64
 }
 
 fn main(rt: HostRuntime) -> io::Result<()> {
-    let alloc = rt.alloc();
-    let vocabulary = Vocabulary::new(alloc)?;
-    let memory = vocabulary.memory();
+    let mut cells = Cells {
+        single: [-1; 256],
+        roots: [0; 65536],
+        table: [0; 65280],
+    };
+    let memory = cells.vocabulary();
     examples(&rt, memory)?;
     held(&rt, memory)?;
     refusals(&rt, memory)?;
-    pieces_of_aa(&rt, Vocabulary::only_a(alloc)?.memory())?;
-    cuttings(&rt, alloc, memory, b"abbcabcd")?;
+    pieces_of_aa(&rt, cells.only_a())?;
+    let memory = cells.vocabulary();
+    cuttings(&rt, memory, b"abbcabcd")?;
     short_strings(&rt, memory)?;
     let codes = 78125;
-    let n = differing(alloc, memory, codes)?;
+    let n = differing(memory, codes)?;
     println!(rt; "{n} of {codes} cuttings differ from the whole")
 }

@@ -14,7 +14,7 @@ ghost use Rattle.entry.specs.TokenOf.{token_of};
 ghost use Rattle.memory.specs.Lent.{cells_in, SameSlices};
 ghost use Rattle.nodes.specs.Run.{Nodes, room};
 ghost use Rattle.nodes.specs.Stands.{Grown};
-ghost use Rattle.tokens.specs.Built.{Built, BuiltIn, KeptIn, Counts, Small, room_for, PushedIn, is_taken, set_single, set_offsets};
+ghost use Rattle.tokens.specs.Built.{Built, BuiltIn, KeptIn, Counts, Small, room_for, PushedAs, is_taken, set_single, set_offsets};
 ghost use Rattle.tokens.specs.Built.{one_entered};
 
 use entry::Entry;
@@ -143,11 +143,12 @@ pub fn push_entered(
     entered: Result<u32, Refusal>,
 ) -> Result<Build, Refusal>
     requires { (256 ≤ length memory.old.single.now) × (65537 ≤ length memory.old.offsets.now) × (st.previous < token.id) × Small st }
-    ensures stands { (table : ℕ) (ts : List Token) (rs : List ℕ) (ns ns' : Nodes)
+    ensures stands { (table : ℕ) (ts : List Token) (rs rs' : List ℕ) (ns ns' : Nodes)
         → Built ts memory.old.single.now memory.old.offsets.now memory.old.blob.now rs ns st
         → (Reads (last_id ts) (token_of token.entry)
-        → Grown ts (token_of token.entry) (room ns) entered memory.old.roots.now ns') → length ns' ≡ length ns
-        → PushedIn (room_for ns memory.old.blob.now table) ts (token_of token.entry) result memory.new ns' }
+        → Grown ts (token_of token.entry) (room ns) entered rs' ns') → length ns' ≡ length ns
+        → PushedAs (room_for ns memory.old.blob.now table) ts (token_of token.entry) result
+        memory.new.single.now memory.new.offsets.now memory.new.blob.now rs' ns' }
     ensures kept { KeptIn memory.old memory.new }
     ensures rest { (memory.new.roots.now ≡ memory.old.roots.now) × (memory.new.table.now ≡ memory.old.table.now) }
     ensures same { SameSlices memory.old memory.new }

@@ -12,8 +12,8 @@ returns-clause-stands c = λ table ts B.
     let n = c.enter-entered.new in
     let p = c.push_entered in
     subst (λ (bl : List ℕ). PushedIn (room_for a.nodes.now bl table) ts (token_of a.token) p.result p.new.memory n.nodes) r.2
-    (p.ensures.stands table ts a.memory.now.roots.now a.nodes.now n.nodes (same-built r.0 r.1 r.2 B)
-    (λ x. e.stands ts _ _ B x) c.enter-entered.auto.nodes)
+    (p.ensures.stands table ts a.memory.now.roots.now p.new.memory.roots.now a.nodes.now n.nodes (same-built r.0 r.1 r.2 B)
+    (λ x. rw p.ensures.rest.0 (e.stands ts _ _ B x)) c.enter-entered.auto.nodes)
 
 pub returns-clause-kept : goal.returns-clause-kept
 returns-clause-kept c =

@@ -19,12 +19,12 @@ pub moved-bad-requires : goal.moved-bad-requires
 moved-bad-requires c =
     let label = get_or c.args.others.now c.loop-label.label-index 0 in
     let d = xor_lt 8 c.args.first label (omega arith) (omega arith) in
-    in_four _ _ _ (omega arith) c.requires c.args.self.now.blocks
+    in_four _ _ _ (omega arith) (omega (arith, c.requires, c.args.self.now.blocks))
 
 pub moved-requires : goal.moved-requires
 moved-requires c =
     let K = c.args.self.now in
-    let q = in_four c.args.i c.from-2.result (length K.used.now) (omega arith) c.requires K.blocks in
+    let q = in_four c.args.i c.from-2.result (length K.used.now) (omega arith) (omega (arith, c.requires, K.blocks)) in
     omega (arith, K.as_many, q)
 
 pub returns : goal.returns

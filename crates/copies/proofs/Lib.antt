@@ -1,0 +1,2 @@
+-- Lemmas of the copies.
+pub mod Fronts
