@@ -2,9 +2,8 @@
 use memory::Memory;
 
 // The cells that are lent. `single` and roots play no part but in number 1.
-// Kept: as the cells of `replay`, with another part left out and other makers.
-// Kept: arrays that `main` owns, since an array cannot run out of memory; so a maker writes over what another left. They are lent one by
-// one: of roots only the number counts, and the built program then has none.
+// Kept: as the cells of `streams`, with another part left out and other makers. Arrays that `main` owns, since an array cannot run out of
+// memory; so a maker writes over what another left.
 #[derive(Drop)]
 pub struct Cells<'a> {
     pub single: &'a [i32],
