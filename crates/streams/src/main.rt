@@ -283,8 +283,8 @@ fn cuttings(rt: &impl Print, memory: Memory, letters: &[u8; 8]) -> io::Result<()
     println!(rt)
 }
 
-// Whether a stream of this string's pieces gives other ids, or another refusal, than its letters as a whole; it has seven letters and bars.
-fn differs(memory: Memory, words: &[u8]) -> io::Result<bool> {
+// Whether a stream of this string's pieces gives other ids, or another refusal, than its letters as a whole.
+fn differs(memory: Memory, words: &[u8; 7]) -> io::Result<bool> {
     let mut piece_cells: [&[u8]; 8] = [&[]; 8];
     let pieces = fill(&mut piece_cells, words.split(|b| *b == b'|'));
     let mut letter_cells = [0; 8];
